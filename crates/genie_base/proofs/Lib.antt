@@ -1,0 +1,5 @@
+pub mod FreeLists
+pub mod Mapped
+pub mod Overlaid
+pub mod Places
+pub mod Searches

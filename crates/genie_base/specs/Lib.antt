@@ -1,0 +1,12 @@
+pub mod Bytes
+pub mod Causes
+pub mod Configs
+pub mod Counts
+pub mod Events
+pub mod FreeLists
+pub mod Headers
+pub mod Posted
+pub mod Records
+pub mod Refusals
+pub mod Regions
+pub mod Transfers
