@@ -1,0 +1,7 @@
+pub mod FileView
+pub mod Handles
+pub mod Host
+pub mod MemoryParts
+pub mod MemoryRecords
+pub mod MemoryView
+pub mod OnlyHandle
