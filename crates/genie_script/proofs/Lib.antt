@@ -1,0 +1,13 @@
+pub mod Each
+pub mod Decimals
+pub mod Parts
+pub mod Pairs
+pub mod Whole
+pub mod Joined
+pub mod Spaced
+pub mod Spells
+pub mod Ports
+pub mod Digits
+pub mod Grammar
+pub mod SpelledSo
+pub mod ReadAgain
