@@ -1,0 +1,151 @@
+//! A process with its regions.
+ghost use Rattle.std.specs.Prelude.{◌≡◌, ◌==◌, ℕ, ◌+◌, ◌*◌, ◌<◌, ◌≤◌, ◌^◌, [], length, map, sum_by, insert, OnOk, OnErr};
+ghost use Rattle.std.specs.List.{list_any};
+ghost use Rattle.std.specs.Option.{option_copied};
+ghost use Rattle.genie_base.specs.Regions.{reach, is_free};
+ghost use Rattle.genie_model.specs.State.{Region as Placed};
+ghost use Rattle.genie_model.specs.Tables.{put_in};
+ghost use Rattle.genie_model.specs.State.{extent_of, region_pages, has_number, stored_in_region, stored_in_process};
+ghost use Rattle.genie_model.specs.Step.{with_region};
+
+use crate::region::Region;
+use genie_base::{NoMemory, PageSize};
+use std::alloc::Global;
+use std::marker::Model;
+
+/// A live process that never moved a region out: its regions in the order of their start pages.
+#[derive(Drop)]
+pub(crate) struct Process {
+    regions: Vec<Region>,
+}
+
+impl Model for Process {
+    ghost use Rattle.std.specs.Prelude.{[], length, ◌≤◌};
+    ghost use Rattle.genie_model.specs.State as flat;
+
+    ghost Value = { flat.Process };
+
+    ghost view = { λ p. record { queue = []; regions = p.regions.items } };
+
+    ghost invariant = { λ p. length p.regions.items ≤ 32 };
+}
+
+// The region that an access reaches.
+fn reached(regions: &[Region], page: PageSize, addr: u32, len: u32) -> Option<&Region>
+    ensures { option_copied result ≡ reach extent_of page addr len regions.now }
+{
+    regions
+        .iter()
+        .find(|region| region.is_reached(page, addr, len))
+}
+
+fn all_apart(regions: &[Region], start: u32, pages: u32) -> bool
+    ensures { result ≡ is_free extent_of start pages regions.now }
+{
+    regions.iter().all(|region| region.is_apart(start, pages))
+}
+
+fn any_numbered(regions: &[Region], number: u32) -> bool
+    ensures { result ≡ list_any (λ r. r.number == number) regions.now }
+{
+    regions.iter().any(|region| region.number() == number)
+}
+
+fn sum_of_pages(regions: &[Region]) -> u64
+    requires { length regions.now ≤ 32 }
+    ensures pages { result ≡ sum_by (λ r. r.pages) regions.now }
+    ensures most { result ≤ 2 ^ 32 * length regions.now }
+{
+    let mut pages = 0;
+    for region in regions {
+        pages += u64::from(region.pages());
+    }
+    pages
+}
+
+fn store_in_all(regions: &mut [Region], number: u32, at: usize, bytes: &[u8])
+    ensures { regions.new ≡ map (stored_in_region number at bytes.now) regions.old }
+{
+    for region in regions.iter_mut() {
+        region.store(number, at, bytes);
+    }
+}
+
+// Where a region that starts at page `start` belongs.
+fn place_for(regions: &[Region], start: u32) -> usize
+    ensures within { result ≤ length regions.now }
+    ensures place { (r : Placed) → r.start ≡ start → insert regions.now result r ≡ put_in (λ q. q.start) r regions.now }
+{
+    for (i, region) in regions.iter().enumerate() {
+        if start < region.start() {
+            return i;
+        }
+    }
+    regions.len()
+}
+
+impl Process {
+    // A process without a region.
+    pub(crate) fn new(alloc: Global) -> Process
+        ensures { result ≡ record { queue = []; regions = [] } }
+    {
+        Process {
+            regions: Vec::new(alloc),
+        }
+    }
+
+    // The region that an access reaches.
+    pub(crate) fn reach(&self, page: PageSize, addr: u32, len: u32) -> Option<&Region>
+        ensures { option_copied result ≡ reach extent_of page addr len self.now.regions }
+    {
+        reached(self.regions.as_slice(), page, addr, len)
+    }
+
+    // Whether none of its regions has one of these pages.
+    pub(crate) fn is_free(&self, start: u32, pages: u32) -> bool
+        ensures { result ≡ is_free extent_of start pages self.now.regions }
+    {
+        all_apart(self.regions.as_slice(), start, pages)
+    }
+
+    // How many regions it has.
+    pub(crate) fn count(&self) -> usize
+        ensures count { result ≡ length self.now.regions }
+        ensures most { result ≤ 32 }
+    {
+        self.regions.len()
+    }
+
+    // The pages of its regions.
+    pub(crate) fn pages(&self) -> u64
+        ensures pages { result ≡ region_pages (Some self.now) }
+        ensures most { result ≤ 2 ^ 37 }
+    {
+        sum_of_pages(self.regions.as_slice())
+    }
+
+    // Whether one of its regions has this number.
+    pub(crate) fn has_number(&self, number: u32) -> bool
+        ensures { result ≡ has_number number (Some self.now) }
+    {
+        any_numbered(self.regions.as_slice(), number)
+    }
+
+    // Puts a region into its place.
+    pub(crate) fn add(&mut self, region: Region) -> Result<(), NoMemory>
+        requires { length self.old.regions < 32 }
+        ensures ok { OnOk result (self.new ≡ with_region region self.old) }
+        ensures err { OnErr result (self.new ≡ self.old) }
+    {
+        let at = place_for(self.regions.as_slice(), region.start());
+        self.regions.insert(at, region)?;
+        Ok(())
+    }
+
+    // Stores bytes from place `at` on in region `number`.
+    pub(crate) fn store(&mut self, number: u32, at: usize, bytes: &[u8])
+        ensures { self.new ≡ record self.old { regions = map (stored_in_region number at bytes.now) self.old.regions } }
+    {
+        store_in_all(self.regions.as_mut_slice(), number, at, bytes);
+    }
+}
