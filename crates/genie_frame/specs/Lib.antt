@@ -1,0 +1,3 @@
+pub mod FrameTable
+pub mod Frames
+pub mod Lending
