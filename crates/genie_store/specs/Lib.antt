@@ -1,0 +1,3 @@
+pub mod MemoryView
+pub mod Slots
+pub mod StoreView

@@ -1,0 +1,91 @@
+//! Which slots of the store are taken.
+ghost use Rattle.std.specs.Prelude.{◌≡◌, ◌+◌, ◌<◌, ◌≤◌, not, true, false, [], ◌∷◌, ◌++◌, length, replicate, count_by, IfOk, slice_set, vec_capacity};
+ghost use Rattle.genie_base.specs.FreeLists.{IsFreeList};
+ghost use Rattle.genie_store.specs.Slots.{slot_at};
+
+use genie_base::NoMemory;
+use std::alloc::{AllocError, Global};
+use std::marker::Model;
+
+/// The slots of the store, each of them taken or not. A slot is taken and given back in constant time. Contracts see
+/// for each slot whether it is taken.
+#[derive(Drop)]
+pub struct Slots {
+    taken: Vec<bool>,
+    // The numbers of the free slots, each once.
+    free: Vec<u32>,
+}
+
+impl Model for Slots {
+    ghost use Rattle.std.specs.Prelude.{List, Bool, vec_capacity};
+    ghost use Rattle.genie_store.specs.Slots.{AreListed};
+
+    ghost Value = { List Bool };
+
+    ghost view = { λ a. a.taken.items };
+
+    ghost invariant = { λ a. AreListed a.taken.items a.free.items (vec_capacity a.free) };
+}
+
+impl Slots {
+    /// `pages` slots, all of them free.
+    pub fn new(alloc: Global, pages: u32) -> Result<Slots, NoMemory>
+        ensures { IfOk result (λ slots. slots ≡ replicate pages false) }
+    {
+        let taken = vec![in alloc; false; pages as usize]?;
+        let free = all_free(alloc, pages)?;
+        Ok(Slots { taken, free })
+    }
+
+    /// The number of free slots.
+    pub fn free(&self) -> u32
+        ensures { result ≡ count_by not self.now }
+    {
+        self.free.len() as u32
+    }
+
+    /// Takes a free slot. Which one isn't said.
+    pub fn take(&mut self) -> u32
+        requires { 0 < count_by not self.old }
+        ensures there { result < length self.old }
+        ensures was_free { slot_at self.old result ≡ false }
+        ensures slots { self.new ≡ slice_set self.old result true }
+    {
+        let slot = pop_free(&mut self.free);
+        self.taken[slot as usize] = true;
+        slot
+    }
+
+    /// Gives a taken slot back.
+    pub fn back(&mut self, slot: u32)
+        requires { slot_at self.old slot ≡ true }
+        ensures { self.new ≡ slice_set self.old slot false }
+    {
+        self.taken[slot as usize] = false;
+        self.free.push_reserved(slot);
+    }
+}
+
+// The numbers of n slots, all of them free.
+fn all_free(alloc: Global, n: u32) -> Result<Vec<u32>, AllocError>
+    ensures list { IfOk result (λ v. IsFreeList not true (replicate n false) v.items) }
+    ensures room { IfOk result (λ v. n ≤ vec_capacity v) }
+{
+    let mut all = Vec::with_capacity(alloc, n as usize)?;
+    for slot in 0..n {
+        all.push_reserved(slot);
+    }
+    Ok(all)
+}
+
+// The last slot of the list.
+fn pop_free(free: &mut Vec<u32>) -> u32
+    requires { 0 < length free.old.items }
+    ensures items { free.old.items ≡ free.new.items ++ result ∷ [] }
+    ensures room { vec_capacity free.new ≡ vec_capacity free.old }
+{
+    let Some(slot) = free.pop() else {
+        unreachable!()
+    };
+    slot
+}
