@@ -1,0 +1,5 @@
+pub mod Mapped
+pub mod Named
+pub mod ObjectLaws
+pub mod PageLaws
+pub mod Showing
