@@ -1,0 +1,37 @@
+-- A loop of writes: what was written so far, and what is left to write.
+use Rattle.std.proofs.Common.{◌≡◌, ℕ, List, ◌++◌, take, drop, ap, sym, ◌∙◌, append_assoc, append-nil, [], rules}
+use Rattle.std.specs.Prelude.{Option, Some, None, Ok}
+use Rattle.std.proofs.lemmas.Grind.{common_steps}
+use Rattle.std.specs.Io.KnownBytes.{Appends}
+use Rattle.genie_host.specs.Host.{HostView, OnlyHandle, Writes}
+use Rattle.genie_host.specs.OnlyHandle.{only_trans}
+
+pub appends_nothing : (k : Option (List ℕ)) → Appends k k []
+appends_nothing None = tt
+appends_nothing (Some xs) = sym (append-nil xs)
+
+pub appends_more : (u v w : Option (List ℕ)) (xs ys : List ℕ) → Appends u v xs → Appends v w ys → Appends u w (xs ++ ys)
+appends_more None v w xs ys a b = tt
+appends_more (Some u) None w xs ys a b = absurd a
+appends_more (Some u) (Some v) None xs ys a b = absurd b
+appends_more (Some u) (Some v) (Some w) xs ys a b = b ∙ ap (λ (l : List ℕ). l ++ ys) a ∙ append_assoc u xs ys
+
+-- the bytes but for the rest were appended to the handle, and nothing else changed
+pub record Written (k : ℕ) (old new : HostView) (bytes rest : List ℕ) : Type 0 where
+  pub only : OnlyHandle k old new
+  pub front : List ℕ
+  pub split : bytes ≡ front ++ rest
+  pub appended : Appends (old.handle k).bytes (new.handle k).bytes front
+  pub count : (new.handle k).faults ≡ (old.handle k).faults
+
+pub written_more : {E : Type 0} (k : ℕ) (u v w : HostView) (bytes rest : List ℕ) (n : ℕ) → Written k u v bytes rest → Writes {E = E} k v w (Ok n) rest → Written k u w bytes (drop n rest)
+written_more k u v w bytes rest n so step = record {
+  only = only_trans k u v w so.only step.only;
+  front = so.front ++ take n rest;
+  split = let cut : take n rest ++ drop n rest ≡ rest = search (rules, common_steps) in so.split ∙ ap (λ (l : List ℕ). so.front ++ l) (sym cut) ∙ sym (append_assoc so.front (take n rest) (drop n rest));
+  appended = appends_more (u.handle k).bytes (v.handle k).bytes (w.handle k).bytes so.front (take n rest) so.appended step.bytes;
+  count = step.cause.kept ∙ so.count;
+}
+
+pub written_to : {E : Type 0} (k : ℕ) (u v w : HostView) (bytes rest after : List ℕ) (n : ℕ) → Written k u v bytes rest → Writes {E = E} k v w (Ok n) rest → after ≡ drop n rest → Written k u w bytes after
+written_to k u v w bytes rest after n so step e = rw e (written_more k u v w bytes rest n so step)

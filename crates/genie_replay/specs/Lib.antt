@@ -1,0 +1,9 @@
+pub mod Bounds
+pub mod Finding
+pub mod Judge
+pub mod Lines
+pub mod Outcome
+pub mod Plays
+pub mod Serving
+pub mod Statuses
+pub mod Write
