@@ -1,12 +1,12 @@
 -- Laws of a list of free places.
-use Rattle.std.proofs.Common.{◌≡◌, ◌≢◌, ℕ, ◌<◌, ◌≤◌, ◌+◌, Bool, true, false, List, [], ◌∷◌, ◌++◌, refl, arith, ap, length, set, get_or, sym, ◌∙◌, inl, inr, length-append, length-set}
+use Rattle.std.proofs.Common.{◌≡◌, ◌≢◌, ℕ, ◌<◌, ◌≤◌, ◌+◌, Bool, true, false, List, [], ◌∷◌, ◌++◌, refl, arith, ap, length, set, get_or, sym, ◌∙◌, inl, inr, length-append}
 use Rattle.std.specs.Prelude.{◌==◌, count_by, if◌then◌else◌, replicate}
 use Rattle.std.proofs.lemmas.List.{length-replicate, get_or-replicate}
 use Rattle.std.proofs.lemmas.List.Folds.{sum_by-replicate}
 use Rattle.std.proofs.lemmas.Bool.Decides.{eqb_tells}
 use Rattle.std.proofs.lemmas.Bool.{cases_lt}
 use Rattle.genie_base.specs.FreeLists.{IsFreeList}
-use Rattle.genie_base.proofs.Places.{same_or, set_at, past_end, any_default, num, count_by-set, count_by-push, count_by-below}
+use Rattle.genie_base.proofs.Places.{same_or, set_at, past_end, num, count_by-set, count_by-push, count_by-below}
 
 num_one : (b : Bool) → 1 ≤ num b → b ≡ true
 num_one true h = refl

@@ -1,7 +1,7 @@
 -- What searches of a list find, and edits of the one element that a search finds.
 use Rattle.std.proofs.Common.{◌≡◌, ◌≢◌, ℕ, ◌<◌, ◌≤◌, ◌+◌, suc, zero, Bool, true, false, not, cond, List, [], ◌∷◌, Some, None, refl, arith, length, get_or, set, map, ap, ⊎_elim, sym, ◌∙◌, ltb}
 use Rattle.std.specs.Prelude.{find, filter, position, is_some}
-use Rattle.std.specs.List.{remove, range_with_len, list_all, list_any, position_or_len, AllPairs, All}
+use Rattle.std.specs.List.{remove, range_with_len, list_all, list_any, position_or_len, AllPairs}
 use Rattle.std.proofs.lemmas.Bool.{cases_Bool, cases_eq, cases_lt, both_ways, cond-true, cond-false, false_from_ne_true, lt-ltb}
 use Rattle.std.proofs.lemmas.List.Folds.{Any-from_list_any, find_at}
 use Rattle.std.proofs.lemmas.List.Quantifiers.{position-Some}

@@ -1,5 +1,5 @@
 -- Reading the header of a record, in both formats.
-use Rattle.std.specs.Prelude.{ℕ, ◌==◌, ◌&&◌, ◌||◌, Bool, nat_le, List, drop, slice_index, Option, None, Some, if◌then◌else◌}
+use Rattle.std.specs.Prelude.{ℕ, ◌-◌, ◌==◌, ◌&&◌, ◌||◌, Bool, nat_le, min, List, ◌++◌, length, drop, slice_index, Option, None, Some, if◌then◌else◌}
 use Rattle.std.specs.Int.{from_be_bytes, w16, w32}
 
 -- how many bytes a header has that begins with these two
@@ -23,3 +23,19 @@ flow_in bytes = if slice_index bytes 1 == 69 then Some (from_be_bytes w32 (drop 
 -- a whole header is valid where a format begins so and its payload has at most so many bytes
 abbrev pub is_valid_header : ℕ → List ℕ → Bool
 is_valid_header most bytes = is_format (slice_index bytes 0) (slice_index bytes 1) && nat_le (len_in bytes) most
+
+-- how many bytes the header has that begins with these, as far as they tell it
+abbrev pub size_of_header : List ℕ → ℕ
+size_of_header bytes = header_size (slice_index bytes 0) (slice_index bytes 1)
+
+abbrev pub is_whole_header : List ℕ → Bool
+is_whole_header bytes = nat_le (size_of_header bytes) (length bytes)
+
+-- how many bytes a step takes for a header of which these are gathered: as many as the budget, the rest of the stream
+-- and the header allow
+abbrev pub header_taken : ℕ → List ℕ → List ℕ → ℕ
+header_taken n gathered rest = min n (min (length rest) (size_of_header (gathered ++ rest) - length gathered))
+
+-- how many bytes of a payload a step takes of which so many are left
+abbrev pub payload_taken : ℕ → ℕ → List ℕ → ℕ
+payload_taken n left rest = min n (min left (length rest))
