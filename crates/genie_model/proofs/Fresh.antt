@@ -1,6 +1,7 @@
 -- The search for the least number that isn't used.
 use Rattle.std.proofs.Common.{◌≡◌, ℕ, zero, suc, ◌+◌, ◌<◌, true, false, refl, arith}
-use Rattle.genie_model.specs.State.{State, is_used, least_unused, fresh}
+use Rattle.genie_model.specs.State.{State}
+use Rattle.genie_model.specs.Regions.{is_used, least_unused, fresh}
 
 pub fresh_begins : (s : State) (tries : ℕ) → tries + 0 ≡ 577 → least_unused s tries 0 ≡ fresh s
 unfolding fresh

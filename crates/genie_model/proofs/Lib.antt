@@ -1,6 +1,9 @@
 pub mod Booting
+pub mod Collecting
 pub mod First
 pub mod Fresh
 pub mod Growing
 pub mod InPlace
 pub mod Placing
+pub mod Quiet
+pub mod Rows

@@ -1,5 +1,6 @@
 //! A device with its whole output.
 ghost use Rattle.std.specs.Prelude.{◌≡◌, ◌++◌, [], None, false, OnOk, OnErr};
+ghost use Rattle.genie_model.specs.Pending.{is_early, is_outboard};
 
 use genie_base::{Kind, NoMemory};
 use std::alloc::Global;
@@ -30,6 +31,26 @@ impl Device {
             kind,
             depth,
             sent: Vec::new(alloc),
+        }
+    }
+
+    // Whether it matches a record by its header.
+    pub(crate) fn is_early(&self) -> bool
+        ensures { result ≡ is_early self.now.kind }
+    {
+        match self.kind {
+            Kind::Early => true,
+            Kind::Pooled | Kind::Outboard => false,
+        }
+    }
+
+    // Whether it stages its output.
+    pub(crate) fn is_outboard(&self) -> bool
+        ensures { result ≡ is_outboard self.now.kind }
+    {
+        match self.kind {
+            Kind::Outboard => true,
+            Kind::Early | Kind::Pooled => false,
         }
     }
 

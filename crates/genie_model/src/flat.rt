@@ -99,6 +99,7 @@ impl Flat {
             config: *config,
             page,
             processes,
+            orphans: Vec::new(alloc),
             transfers: Vec::new(alloc),
             devices,
             next: 1,

@@ -1,5 +1,6 @@
 //! Laws of the flat machine.
 ghost use Rattle.genie_model.specs.Laws.{StepsGrow, PlainStepsShowNoFault};
+ghost use Rattle.genie_model.specs.Rows.{WorkedRows};
 
 /// What a device has sent stays sent, and numbers of transfers rise by at most one in a step.
 #[tactic(auto, using(crate::proofs::Growing::steps_grow))]
@@ -11,4 +12,11 @@ pub fn steps_grow()
 #[tactic(auto, using(crate::proofs::Growing::plain_steps_show_no_fault))]
 pub fn plain_steps_show_no_fault()
     ensures { PlainStepsShowNoFault }
+{}
+
+/// The definitions compute the worked rows: for each class of semantics and each kind of device one script at least,
+/// with its replies and the bytes sent.
+#[tactic(auto, using(crate::proofs::Rows::worked_rows))]
+pub fn worked_rows()
+    ensures { WorkedRows }
 {}

@@ -1,13 +1,20 @@
 //! The flat machine: the specification in `specs/`, and a plain machine that computes it by copies of whole lists.
 #![tactic(auto)]
 
-mod accept;
+mod change;
 mod device;
+mod finish;
 pub mod flat;
 pub mod laws;
 mod machine;
+mod orphan;
+mod output;
+pub mod phase;
 mod process;
+mod refuse;
 mod region;
+mod send;
+mod space;
 mod step;
 mod table;
 #[cfg(test)]

@@ -1,30 +1,20 @@
-//! The state of the plain machine, and which events it refuses.
-ghost use Rattle.std.specs.Prelude.{◌≡◌, ◌==◌, ℕ, ◌+◌, ◌-◌, ◌*◌, ◌<◌, ◌≤◌, ◌^◌, ◌&&◌, Option, length, IsTrue};
+//! The state of the plain machine.
+ghost use Rattle.std.specs.Prelude.{◌≡◌, ◌==◌, ℕ, ◌+◌, ◌-◌, ◌*◌, ◌<◌, ◌≤◌, ◌^◌, ◌&&◌, length, IfOk};
 ghost use Rattle.std.specs.Option.{option_copied};
-ghost use Rattle.genie_base.specs.Configs.{config_of, Fits};
-ghost use Rattle.genie_base.specs.declared.event.Event.TheVariants as event;
-ghost use Rattle.genie_base.specs.Regions.{is_free};
-ghost use Rattle.genie_base.specs.Transfers.{class_of};
-ghost use Rattle.genie_base.specs.declared.semantics.Semantics.{Semantics as Call};
-ghost use Rattle.genie_model.specs.State.{extent_of, regions_at, is_alive, reach_of, committed, wired};
-ghost use Rattle.genie_model.specs.Refusing.{refuse, causes, first_cause, has_output, most_of, frames_to_wire};
-ghost use Rattle.genie_model.specs.Served.{is_served};
-ghost use Rattle.genie_model.specs.Tables.{entry};
+ghost use Rattle.genie_model.specs.Changes.{change_of};
+ghost use Rattle.genie_model.specs.Regions.{is_alive, reach_of, write_reach_of, region_numbered, orphan_numbered, orphan_part, bytes_of, address_of, change_region, put};
+ghost use Rattle.genie_model.specs.Space.{tidy, region_from};
 
+use crate::change::Change;
 use crate::device::Device;
+use crate::orphan::{Orphan, orphan_numbered, store_in_orphan, tidy};
 use crate::process::Process;
 use crate::region::Region;
 use crate::table;
-use crate::transfer::{Transfer, numbered, wired};
-use genie_base::{Class, Config, Event, PageSize, Refusal, span};
+use crate::transfer::Transfer;
+use genie_base::{Config, NoMemory, PageSize};
 use std::alloc::Global;
 use std::marker::Model;
-
-/// The most regions that a process may have.
-const MOST_REGIONS: usize = 32;
-
-/// The most transfers that may be pending.
-const MOST_TRANSFERS: usize = 64;
 
 /// The state, as lists of whole buffers.
 #[derive(Drop)]
@@ -33,26 +23,34 @@ pub(crate) struct Machine {
     pub(crate) config: Config,
     pub(crate) page: PageSize,
     pub(crate) processes: Vec<Option<Process>>,
+    pub(crate) orphans: Vec<Orphan>,
     pub(crate) transfers: Vec<Transfer>,
     pub(crate) devices: Vec<Option<Device>>,
     pub(crate) next: u64,
 }
 
 impl Model for Machine {
-    ghost use Rattle.std.specs.Prelude.{[]};
     ghost use Rattle.genie_base.specs.Configs.{config_of};
     ghost use Rattle.genie_model.specs.State as flat;
     ghost use Rattle.genie_model.specs.Shape.{HasShape};
 
     ghost Value = { flat.State };
 
-    ghost view = { λ m. record { config = config_of m.config; processes = m.processes.items; orphans = []; transfers = m.transfers.items; devices = m.devices.items; next = m.next } };
+    ghost view = { λ m. record { config = config_of m.config; processes = m.processes.items; orphans = m.orphans.items; transfers = m.transfers.items; devices = m.devices.items; next = m.next } };
 
     ghost invariant = { λ m. HasShape m.page m.config.page m.processes.items m.transfers.items };
 }
 
 impl Machine {
-    fn is_alive(&self, pid: u32) -> bool
+    // Cuts each orphan to what pending weak transfers cover.
+    pub(crate) fn tidy(&mut self)
+        ensures { self.new ≡ tidy self.old }
+    {
+        tidy(&mut self.orphans, self.transfers.as_slice());
+    }
+
+    // Whether a process is alive.
+    pub(crate) fn is_alive(&self, pid: u32) -> bool
         ensures { result ≡ is_alive self.now pid }
     {
         table::entry_of(self.processes.as_slice(), pid).is_some()
@@ -68,194 +66,79 @@ impl Machine {
         }
     }
 
-    // Whether there is such a device, with an output.
-    fn has_output(&self, dev: u32) -> bool
-        ensures { result ≡ has_output (entry self.now.config.devices dev) }
+    // The region that a write of a process reaches.
+    pub(crate) fn write_reach(&self, pid: u32, addr: u32, len: u32) -> Option<&Region>
+        ensures { option_copied result ≡ write_reach_of self.now pid addr len }
     {
-        match table::entry_of(&self.config.devices, dev) {
-            Some(device) => device.output.is_some(),
-            None => false,
-        }
-    }
-
-    // The longest datagram of a device, in bytes.
-    fn most_of(&self, dev: u32) -> u32
-        ensures { result ≡ most_of self.now.config.page (entry self.now.config.devices dev) }
-    {
-        match table::entry_of(&self.config.devices, dev) {
-            Some(device) => device.kind.most(self.page),
-            None => 0,
-        }
-    }
-
-    fn count_of(&self, pid: u32) -> usize
-        ensures { result ≡ length (regions_at self.now pid) }
-    {
-        match table::entry_of(self.processes.as_slice(), pid) {
-            Some(process) => process.count(),
-            None => 0,
-        }
-    }
-
-    fn is_free(&self, pid: u32, start: u32, pages: u32) -> bool
-        ensures { result ≡ is_free extent_of start pages (regions_at self.now pid) }
-    {
-        match table::entry_of(self.processes.as_slice(), pid) {
-            Some(process) => process.is_free(start, pages),
-            None => true,
-        }
-    }
-
-    // How many pages a region of `pages` more would make of all regions.
-    fn committed_with(&self, pages: u32) -> u64
-        ensures { result ≡ committed self.now + pages }
-    {
-        table::committed(self.processes.as_slice()) + u64::from(pages)
-    }
-
-    // How many frames the pending transfers and one more of this cost may need.
-    fn wired_with(&self, cost: u32) -> u64
-        ensures { result ≡ wired self.now + cost }
-    {
-        wired(self.transfers.as_slice(), self.page) + u64::from(cost)
-    }
-
-    // How many frames the pending transfers may need at most.
-    fn frames_to_wire(&self) -> u64
-        ensures { result ≡ frames_to_wire self.now }
-    {
-        u64::from(self.config.frames)
-            .saturating_sub(self.config.pool())
-            .saturating_sub(4)
-    }
-
-    fn refuse_spawn(&self, pid: u32) -> Option<Refusal>
-        ensures { result ≡ first_cause (causes self.now (event.Spawn pid)) }
-    {
-        if pid > 15 {
-            return Some(Refusal::Proc);
-        }
-        if self.is_alive(pid) {
-            return Some(Refusal::Exists);
-        }
-        None
-    }
-
-    fn refuse_map(&self, pid: u32, page: u32, pages: u32) -> Option<Refusal>
-        ensures { result ≡ first_cause (causes self.now (event.Map pid page pages)) }
-    {
-        if !self.is_alive(pid) {
-            return Some(Refusal::Proc);
-        }
-        if !(1 <= pages && pages <= 64) {
-            return Some(Refusal::Range);
-        }
-        if u64::from(page) + u64::from(pages) > 512 || !self.is_free(pid, page, pages) {
-            return Some(Refusal::Region);
-        }
-        if self.count_of(pid) >= MOST_REGIONS {
-            return Some(Refusal::Regions);
-        }
-        if self.committed_with(pages) > u64::from(self.config.slots) {
-            return Some(Refusal::Backing);
-        }
-        None
-    }
-
-    fn refuse_read(&self, pid: u32, addr: u32, len: u32) -> Option<Refusal>
-        ensures { result ≡ first_cause (causes self.now (event.Read pid addr len)) }
-    {
-        if !self.is_alive(pid) {
-            return Some(Refusal::Proc);
-        }
-        if !(1 <= len && len <= self.page.get() && self.reach(pid, addr, len).is_some()) {
-            return Some(Refusal::Range);
-        }
-        None
-    }
-
-    fn refuse_write(&self, pid: u32, addr: u32, bytes: &[u8]) -> Option<Refusal>
-        requires { length bytes.now ≤ 4096 }
-        ensures { result ≡ first_cause (causes self.now (event.Write pid addr bytes.now)) }
-    {
-        if !self.is_alive(pid) {
-            return Some(Refusal::Proc);
-        }
-        let len = bytes.len() as u32;
-        if !(1 <= len && len <= self.page.get()) {
-            return Some(Refusal::Range);
-        }
         match self.reach(pid, addr, len) {
-            None => Some(Refusal::Range),
-            Some(region) if region.is_writable() => None,
-            Some(_) => Some(Refusal::Denied),
+            Some(region) if region.is_writable() => Some(region),
+            _ => None,
         }
     }
 
-    fn refuse_copy_out(&self, pid: u32, dev: u32, addr: u32, len: u32) -> Option<Refusal>
-        ensures { (sem : Call) (port : ℕ) (flow : Option ℕ) → class_of sem ≡ Class.Copy → result ≡ first_cause (causes self.now (event.Output pid sem dev port flow addr len)) }
+    // The accessible region of a process that starts at a page.
+    pub(crate) fn region_from(&self, pid: u32, page: u32) -> Option<&Region>
+        ensures { option_copied result ≡ region_from self.now pid page }
     {
-        if !self.is_alive(pid) {
-            return Some(Refusal::Proc);
+        match table::entry_of(self.processes.as_slice(), pid) {
+            Some(process) => process.region_from(page),
+            None => None,
         }
-        if !self.has_output(dev) {
-            return Some(Refusal::Dev);
-        }
-        if !(len <= self.most_of(dev) && self.reach(pid, addr, len).is_some()) {
-            return Some(Refusal::Range);
-        }
-        if self.transfers.len() >= MOST_TRANSFERS {
-            return Some(Refusal::Transfers);
-        }
-        if self.wired_with(span(addr, len, self.page)) > self.frames_to_wire() {
-            return Some(Refusal::Frames);
-        }
-        None
     }
 
-    fn refuse_send(&self, dev: u32, len: u32) -> Option<Refusal>
-        ensures { result ≡ first_cause (causes self.now (event.Send dev len)) }
+    // The region of this number, whoever has it.
+    pub(crate) fn region_numbered(&self, number: u32) -> Option<&Region>
+        ensures { option_copied result ≡ region_numbered self.now number }
     {
-        if !self.has_output(dev) {
-            return Some(Refusal::Dev);
+        match table::process_with(self.processes.as_slice(), number) {
+            Some(Some(process)) => process.region(number),
+            _ => None,
         }
-        if !(1 <= len && len <= 65_536) {
-            return Some(Refusal::Range);
-        }
-        None
     }
 
-    fn refuse_finish(&self, id: u32) -> Option<Refusal>
-        ensures { result ≡ first_cause (causes self.now (event.Finish id)) }
+    // The bytes that an orphan has at the `n` places from place `at` on.
+    fn orphan_part(&self, number: u32, at: usize, n: usize) -> Result<Vec<u8>, NoMemory>
+        ensures { IfOk result (λ bytes. bytes.items ≡ orphan_part at n (orphan_numbered self.now number)) }
     {
-        match numbered(self.transfers.as_slice(), id) {
-            Some(transfer) if transfer.is_ready() => None,
-            _ => Some(Refusal::State),
+        match orphan_numbered(self.orphans.as_slice(), number) {
+            Some(orphan) => orphan.part(self.alloc, at, n),
+            None => Ok(Vec::new(self.alloc)),
         }
     }
-}
 
-impl Machine {
-    // Why an event that is served is refused, or `None` where it is accepted.
-    pub(crate) fn refusal(&self, event: &Event) -> Option<Refusal>
-        requires { IsTrue (is_served event.now) }
-        ensures { result ≡ refuse self.now event.now }
+    // The `n` bytes from place `at` on of a region or orphan.
+    pub(crate) fn bytes_of(&self, number: u32, at: usize, n: usize) -> Result<Vec<u8>, NoMemory>
+        ensures { IfOk result (λ bytes. bytes.items ≡ bytes_of self.now number at n) }
     {
-        match event {
-            Event::Spawn { pid } => self.refuse_spawn(*pid),
-            Event::Map { pid, page, pages } => self.refuse_map(*pid, *page, *pages),
-            Event::Read { pid, addr, len } => self.refuse_read(*pid, *addr, *len),
-            Event::Write { pid, addr, bytes } => self.refuse_write(*pid, *addr, bytes.as_slice()),
-            Event::Output {
-                pid,
-                dev,
-                addr,
-                len,
-                ..
-            } => self.refuse_copy_out(*pid, *dev, *addr, *len),
-            Event::Send { dev, len } => self.refuse_send(*dev, *len),
-            Event::Finish { id } => self.refuse_finish(*id),
-            _ => unreachable!(),
+        match self.region_numbered(number) {
+            Some(region) => match region.part(at, n).to_vec(self.alloc) {
+                Ok(bytes) => Ok(bytes),
+                Err(_) => Err(NoMemory),
+            },
+            None => self.orphan_part(number, at, n),
         }
+    }
+
+    // The address at which a region begins.
+    pub(crate) fn address_of(&self, region: &Region) -> u32
+        ensures { result ≡ address_of self.now region.now }
+    {
+        region.address(self.page)
+    }
+
+    // Changes a region, whoever has it.
+    pub(crate) fn change_region(&mut self, number: u32, change: &Change)
+        ensures { self.new ≡ change_region self.old number (change_of change.now) }
+    {
+        table::change_region(&mut self.processes, number, change);
+    }
+
+    // Stores bytes from place `at` on in a region or orphan.
+    pub(crate) fn put(&mut self, number: u32, at: usize, bytes: &[u8])
+        ensures { self.new ≡ put self.old number at bytes.now }
+    {
+        let change = Change::Bytes { at, bytes };
+        table::change_region(&mut self.processes, number, &change);
+        store_in_orphan(self.orphans.as_mut_slice(), number, at, bytes);
     }
 }

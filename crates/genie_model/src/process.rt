@@ -1,31 +1,33 @@
 //! A process with its regions.
-ghost use Rattle.std.specs.Prelude.{◌≡◌, ◌==◌, ℕ, ◌+◌, ◌*◌, ◌<◌, ◌≤◌, ◌^◌, [], length, map, sum_by, insert, OnOk, OnErr};
+ghost use Rattle.std.specs.Prelude.{◌≡◌, ◌==◌, ℕ, ◌+◌, ◌*◌, ◌<◌, ◌≤◌, ◌^◌, [], length, map, find, sum_by, insert, OnOk, OnErr, Some};
 ghost use Rattle.std.specs.List.{list_any};
 ghost use Rattle.std.specs.Option.{option_copied};
-ghost use Rattle.genie_base.specs.Regions.{reach, is_free};
+ghost use Rattle.genie_base.specs.Regions.{reach, is_free, add_in_order};
 ghost use Rattle.genie_model.specs.State.{Region as Placed};
-ghost use Rattle.genie_model.specs.Tables.{put_in};
-ghost use Rattle.genie_model.specs.State.{extent_of, region_pages, has_number, stored_in_region, stored_in_process};
-ghost use Rattle.genie_model.specs.Step.{with_region};
+ghost use Rattle.genie_model.specs.Changes.{change_of};
+ghost use Rattle.genie_model.specs.Regions.{extent_of, region_pages, has_number, is_region, changed, changed_in};
+ghost use Rattle.genie_model.specs.Space.{with_region, starts_at};
 
+use crate::change::Change;
 use crate::region::Region;
 use genie_base::{NoMemory, PageSize};
 use std::alloc::Global;
 use std::marker::Model;
 
-/// A live process that never moved a region out: its regions in the order of their start pages.
+/// A live process: its weak queue, as numbers of regions, and its regions in the order of their start pages.
 #[derive(Drop)]
 pub(crate) struct Process {
+    queue: Vec<u32>,
     regions: Vec<Region>,
 }
 
 impl Model for Process {
-    ghost use Rattle.std.specs.Prelude.{[], length, ◌≤◌};
+    ghost use Rattle.std.specs.Prelude.{length, ◌≤◌};
     ghost use Rattle.genie_model.specs.State as flat;
 
     ghost Value = { flat.Process };
 
-    ghost view = { λ p. record { queue = []; regions = p.regions.items } };
+    ghost view = { λ p. record { queue = p.queue.items; regions = p.regions.items } };
 
     ghost invariant = { λ p. length p.regions.items ≤ 32 };
 }
@@ -39,6 +41,18 @@ fn reached(regions: &[Region], page: PageSize, addr: u32, len: u32) -> Option<&R
         .find(|region| region.is_reached(page, addr, len))
 }
 
+fn starting(regions: &[Region], page: u32) -> Option<&Region>
+    ensures { option_copied result ≡ find (starts_at page) regions.now }
+{
+    regions.iter().find(|region| region.starts_at(page))
+}
+
+fn numbered(regions: &[Region], number: u32) -> Option<&Region>
+    ensures { option_copied result ≡ find (is_region number) regions.now }
+{
+    regions.iter().find(|region| region.is_region(number))
+}
+
 fn all_apart(regions: &[Region], start: u32, pages: u32) -> bool
     ensures { result ≡ is_free extent_of start pages regions.now }
 {
@@ -46,9 +60,9 @@ fn all_apart(regions: &[Region], start: u32, pages: u32) -> bool
 }
 
 fn any_numbered(regions: &[Region], number: u32) -> bool
-    ensures { result ≡ list_any (λ r. r.number == number) regions.now }
+    ensures { result ≡ list_any (is_region number) regions.now }
 {
-    regions.iter().any(|region| region.number() == number)
+    regions.iter().any(|region| region.is_region(number))
 }
 
 fn sum_of_pages(regions: &[Region]) -> u64
@@ -63,21 +77,21 @@ fn sum_of_pages(regions: &[Region]) -> u64
     pages
 }
 
-fn store_in_all(regions: &mut [Region], number: u32, at: usize, bytes: &[u8])
-    ensures { regions.new ≡ map (stored_in_region number at bytes.now) regions.old }
+fn change_in_all(regions: &mut [Region], number: u32, change: &Change)
+    ensures { regions.new ≡ map (changed number (change_of change.now)) regions.old }
 {
     for region in regions.iter_mut() {
-        region.store(number, at, bytes);
+        region.change(number, change);
     }
 }
 
 // Where a region that starts at page `start` belongs.
 fn place_for(regions: &[Region], start: u32) -> usize
     ensures within { result ≤ length regions.now }
-    ensures place { (r : Placed) → r.start ≡ start → insert regions.now result r ≡ put_in (λ q. q.start) r regions.now }
+    ensures place { (r : Placed) → r.start ≡ start → insert regions.now result r ≡ add_in_order extent_of r regions.now }
 {
     for (i, region) in regions.iter().enumerate() {
-        if start < region.start() {
+        if !region.ends_by(start) {
             return i;
         }
     }
@@ -90,8 +104,16 @@ impl Process {
         ensures { result ≡ record { queue = []; regions = [] } }
     {
         Process {
+            queue: Vec::new(alloc),
             regions: Vec::new(alloc),
         }
+    }
+
+    // Lends its regions.
+    pub(crate) fn regions(&self) -> &[Region]
+        ensures { result.now ≡ self.now.regions }
+    {
+        self.regions.as_slice()
     }
 
     // The region that an access reaches.
@@ -99,6 +121,20 @@ impl Process {
         ensures { option_copied result ≡ reach extent_of page addr len self.now.regions }
     {
         reached(self.regions.as_slice(), page, addr, len)
+    }
+
+    // The accessible region that starts at a page.
+    pub(crate) fn region_from(&self, page: u32) -> Option<&Region>
+        ensures { option_copied result ≡ find (starts_at page) self.now.regions }
+    {
+        starting(self.regions.as_slice(), page)
+    }
+
+    // Its region with this number.
+    pub(crate) fn region(&self, number: u32) -> Option<&Region>
+        ensures { option_copied result ≡ find (is_region number) self.now.regions }
+    {
+        numbered(self.regions.as_slice(), number)
     }
 
     // Whether none of its regions has one of these pages.
@@ -142,10 +178,10 @@ impl Process {
         Ok(())
     }
 
-    // Stores bytes from place `at` on in region `number`.
-    pub(crate) fn store(&mut self, number: u32, at: usize, bytes: &[u8])
-        ensures { self.new ≡ record self.old { regions = map (stored_in_region number at bytes.now) self.old.regions } }
+    // Changes region `number`, if it has it.
+    pub(crate) fn change(&mut self, number: u32, change: &Change)
+        ensures { self.new ≡ changed_in number (change_of change.now) self.old }
     {
-        store_in_all(self.regions.as_mut_slice(), number, at, bytes);
+        change_in_all(self.regions.as_mut_slice(), number, change);
     }
 }

@@ -4,8 +4,9 @@ ghost use Rattle.genie_base.specs.declared.event.Event.TheVariants as event;
 ghost use Rattle.genie_model.specs.Flat.{HasNumber};
 ghost use Rattle.genie_model.specs.Refusing.{refuse};
 ghost use Rattle.genie_model.specs.Served.{is_served};
-ghost use Rattle.genie_model.specs.State.{reach_of};
-ghost use Rattle.genie_model.specs.Step.{step, marked, accept, failed, may_fail, uses_store, bytes_reached};
+ghost use Rattle.genie_model.specs.Regions.{reach_of};
+ghost use Rattle.genie_model.specs.Space.{bytes_reached};
+ghost use Rattle.genie_model.specs.Step.{step, marked, perform, accept, failed, may_fail, uses_store};
 
 use crate::machine::Machine;
 use crate::transfer::Target;
@@ -37,12 +38,12 @@ impl Machine {
         PageBytes::from_slice(self.bytes(pid, addr, len))
     }
 
-    // An accepted event where nothing fails.
-    fn accept(&mut self, event: &Event) -> Result<Reply, NoMemory>
+    // What an accepted event does, where nothing fails.
+    fn perform(&mut self, event: &Event) -> Result<Reply, NoMemory>
         requires accepted { refuse self.old event.now ≡ None }
         requires served { IsTrue (is_served event.now) }
         requires numbered { HasNumber self.old }
-        ensures { IfOk result (λ reply. accept self.old event.now ≡ (self.new, reply)) }
+        ensures { IfOk result (λ reply. perform self.old event.now ≡ (self.new, reply)) }
     {
         match event {
             Event::Spawn { pid } => {
@@ -78,26 +79,38 @@ impl Machine {
                     Err(error) => Err(error),
                 }
             }
-            Event::Send { dev, len } => match self.send(*dev, *len) {
-                Ok(Some(n)) => Ok(Reply::Sent { n }),
-                Ok(None) => Ok(Reply::Idle),
-                Err(error) => Err(error),
-            },
-            Event::Finish { id } => Ok(Reply::Output {
-                n: self.finish(*id),
-            }),
+            Event::Send { dev, len } => self.send(*dev, *len),
+            Event::Finish { id } => Ok(self.finish(*id)),
             _ => unreachable!(),
         }
     }
 }
 
 impl Machine {
-    // Whether the host of a device may have failed after `k` bytes of a send step.
+    // An accepted event where nothing fails, after which orphans are cut to what is covered.
+    fn accept(&mut self, event: &Event) -> Result<Reply, NoMemory>
+        requires accepted { refuse self.old event.now ≡ None }
+        requires served { IsTrue (is_served event.now) }
+        requires numbered { HasNumber self.old }
+        ensures { IfOk result (λ reply. accept self.old event.now ≡ (self.new, reply)) }
+    {
+        match self.perform(event) {
+            Ok(reply) => {
+                self.tidy();
+                Ok(reply)
+            }
+            Err(error) => Err(error),
+        }
+    }
+
+    // Whether the host of a device may fail after `k` bytes of a step.
     fn may_fail(&self, event: &Event, k: u32) -> bool
+        requires { IsTrue (is_served event.now) }
         ensures { result ≡ may_fail self.now event.now k }
     {
         match event {
-            Event::Send { dev, len } => k < *len && self.may_fail_at(*dev, k),
+            Event::Send { dev, len } => k < *len && self.may_fail_sending(*dev, k),
+            Event::Recv { .. } => unreachable!(),
             _ => false,
         }
     }
@@ -110,7 +123,10 @@ impl Machine {
             return Ok(Reply::Fault { n: k });
         }
         match self.send(dev, k) {
-            Ok(_) => Ok(Reply::Fault { n: k }),
+            Ok(_) => {
+                self.tidy();
+                Ok(Reply::Fault { n: k })
+            }
             Err(error) => Err(error),
         }
     }

@@ -1,11 +1,14 @@
 //! The tables of processes and devices.
-ghost use Rattle.std.specs.Prelude.{◌≡◌, ◌==◌, ℕ, ◌+◌, ◌*◌, ◌<◌, ◌≤◌, ◌^◌, ◌&&◌, ◌++◌, Some, None, length, map, sum_by, slice_set, OnOk};
+ghost use Rattle.std.specs.Prelude.{◌≡◌, ◌==◌, ℕ, ◌+◌, ◌*◌, ◌<◌, ◌≤◌, ◌^◌, ◌&&◌, ◌++◌, Some, None, length, map, find, sum_by, slice_set, OnOk};
 ghost use Rattle.std.specs.List.{list_any};
 ghost use Rattle.std.specs.Option.{option_copied};
-ghost use Rattle.genie_model.specs.State.{has_number, regions_of, region_pages, stored_in_process, change_process};
-ghost use Rattle.genie_model.specs.Step.{with_region, change_device, with_sent};
+ghost use Rattle.genie_model.specs.Changes.{change_of};
+ghost use Rattle.genie_model.specs.Regions.{has_number, regions_of, region_pages, changed_in, change_process};
+ghost use Rattle.genie_model.specs.Space.{with_region};
+ghost use Rattle.genie_model.specs.Sending.{change_device, with_sent};
 ghost use Rattle.genie_model.specs.Tables.{entry};
 
+use crate::change::Change;
 use crate::device::Device;
 use crate::process::Process;
 use crate::region::Region;
@@ -39,6 +42,15 @@ pub(crate) fn any_numbered(processes: &[Option<Process>], number: u32) -> bool
         .any(|process| has_number_in(process, number))
 }
 
+// The process that has a region of this number.
+pub(crate) fn process_with(processes: &[Option<Process>], number: u32) -> Option<&Option<Process>>
+    ensures { option_copied result ≡ find (has_number number) processes.now }
+{
+    processes
+        .iter()
+        .find(|process| has_number_in(process, number))
+}
+
 fn pages_of(process: &Option<Process>) -> u64
     ensures pages { result ≡ region_pages process.now }
     ensures most { result ≤ 2 ^ 37 }
@@ -62,33 +74,28 @@ pub(crate) fn committed(processes: &[Option<Process>]) -> u64
     pages
 }
 
-fn store_in(process: &mut Option<Process>, number: u32, at: usize, bytes: &[u8])
-    ensures { process.new ≡ stored_in_process number at bytes.now process.old }
+fn change_in(process: &mut Option<Process>, number: u32, change: &Change)
+    ensures { process.new ≡ change_process (changed_in number (change_of change.now)) process.old }
 {
     if let Some(process) = process {
-        process.store(number, at, bytes);
+        process.change(number, change);
     }
 }
 
-fn store_in_each(processes: &mut [Option<Process>], number: u32, at: usize, bytes: &[u8])
-    ensures { processes.new ≡ map (stored_in_process number at bytes.now) processes.old }
+fn change_in_each(processes: &mut [Option<Process>], number: u32, change: &Change)
+    ensures { processes.new ≡ map (change_process (changed_in number (change_of change.now))) processes.old }
 {
     for process in processes.iter_mut() {
-        store_in(process, number, at, bytes);
+        change_in(process, number, change);
     }
 }
 
-// Stores bytes from place `at` on in region `number`, whoever has it.
-pub(crate) fn store_in_all(
-    processes: &mut Vec<Option<Process>>,
-    number: u32,
-    at: usize,
-    bytes: &[u8],
-)
-    ensures stored { processes.new.items ≡ map (stored_in_process number at bytes.now) processes.old.items }
+// Changes region `number`, whoever has it.
+pub(crate) fn change_region(processes: &mut Vec<Option<Process>>, number: u32, change: &Change)
+    ensures changed { processes.new.items ≡ map (change_process (changed_in number (change_of change.now))) processes.old.items }
     ensures places { length processes.new.items ≡ length processes.old.items }
 {
-    store_in_each(processes.as_mut_slice(), number, at, bytes);
+    change_in_each(processes.as_mut_slice(), number, change);
 }
 
 fn add_to(process: &mut Option<Process>, region: Region) -> Result<(), NoMemory>

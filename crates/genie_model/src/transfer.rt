@@ -1,67 +1,76 @@
-//! A pending output by copy.
-ghost use Rattle.std.specs.Prelude.{◌≡◌, ◌==◌, ℕ, ◌+◌, ◌*◌, ◌<◌, ◌≤◌, ◌^◌, Some, None, length, find, sum_by, IfOk};
+//! A pending transfer.
+ghost use Rattle.std.specs.Prelude.{◌≡◌, ◌==◌, ℕ, ◌+◌, ◌-◌, ◌*◌, ◌<◌, ◌≤◌, ◌^◌, Some, None, length, find, sum_by, IfOk, OnOk};
+ghost use Rattle.std.specs.List.{list_any};
 ghost use Rattle.std.specs.Option.{option_copied};
 ghost use Rattle.genie_base.specs.Records.{header_bytes, header_len};
+ghost use Rattle.genie_base.specs.Transfers.{is_strong};
 ghost use Rattle.genie_base.specs.declared.reply.Note.TheVariants.{Whole};
 ghost use Rattle.genie_base.specs.declared.semantics.Class.TheVariants.{Copy};
 ghost use Rattle.genie_base.specs.declared.semantics.Direction.TheVariants.{Outward};
 ghost use Rattle.genie_model.specs.State.{Transfer as Pending};
-ghost use Rattle.genie_model.specs.State.{Queued, is_ready, is_numbered, waits_for, cost_of};
-ghost use Rattle.genie_model.specs.Step.{record_of, unsent, after_sending};
+ghost use Rattle.genie_model.specs.declared.phase.Phase.TheVariants.{Queued};
+ghost use Rattle.genie_model.specs.Pending.{is_ready, is_queued, is_numbered, waits_for, touched, cost_of, names, names_weakly, covers};
+ghost use Rattle.genie_model.specs.Inputs.{address_or_zero};
+ghost use Rattle.genie_model.specs.Sending.{record_of, unsent, after_sending, after_staging};
 ghost use Rattle.genie_model.specs.Tables.{change, without};
 
-use genie_base::{NoMemory, PageSize, span};
+use crate::phase::Phase;
+use genie_base::{Class, Direction, NoMemory, Note, PageSize, Reply, span};
 use std::alloc::Global;
 use std::marker::Model;
 
-/// An output by copy, with its payload until the last byte of its record is sent.
+/// A transfer that was accepted and isn't ended.
 #[derive(Drop)]
 pub(crate) struct Transfer {
     number: u32,
-    owner: u32,
+    owner: Option<u32>,
+    direction: Direction,
+    class: Class,
     device: u32,
     port: u16,
     flow: Option<u32>,
+    addr: Option<u32>,
+    region: Option<u32>,
     offset: u32,
     len: u32,
-    ready: bool,
+    phase: Phase,
     payload: Vec<u8>,
+    staged: u32,
     moved: u64,
+    stored: u32,
+    note: Note,
 }
 
 impl Model for Transfer {
-    ghost use Rattle.std.specs.Prelude.{Some, None, ◌≤◌, ◌^◌};
-    ghost use Rattle.genie_base.specs.declared.reply.Note.TheVariants.{Whole};
-    ghost use Rattle.genie_base.specs.declared.semantics.Class.TheVariants.{Copy};
-    ghost use Rattle.genie_base.specs.declared.semantics.Direction.TheVariants.{Outward};
+    ghost use Rattle.std.specs.Prelude.{◌≤◌, ◌^◌};
     ghost use Rattle.genie_model.specs.State as flat;
 
     ghost Value = { flat.Transfer };
 
     ghost view = { λ t. record {
       number = t.number;
-      owner = Some t.owner;
-      direction = Outward;
-      class = Copy;
+      owner = t.owner;
+      direction = t.direction;
+      class = t.class;
       device = t.device;
       port = t.port;
       flow = t.flow;
-      addr = None;
-      region = None;
+      addr = t.addr;
+      region = t.region;
       offset = t.offset;
       len = t.len;
-      phase = flat.phase_of t.ready;
+      phase = t.phase;
       payload = t.payload.items;
-      staged = 0;
+      staged = t.staged;
       moved = t.moved;
-      stored = 0;
-      note = Whole;
+      stored = t.stored;
+      note = t.note;
     } };
 
-    ghost invariant = { λ t. t.moved ≤ 2 ^ 33 };
+    ghost invariant = { λ t. (t.moved ≤ 2 ^ 33) × (t.staged ≤ t.len) };
 }
 
-/// Where an output goes: a device's port, and a flow or none.
+/// Where a transfer's bytes come from or go to: a device's port, and a flow or none.
 #[derive(Clone, Copy)]
 pub(crate) struct Target {
     pub(crate) device: u32,
@@ -70,8 +79,8 @@ pub(crate) struct Target {
 }
 
 impl Transfer {
-    // An output of which nothing is sent.
-    pub(crate) fn new(
+    // A copy output of which nothing is sent.
+    pub(crate) fn copy_out(
         number: u32,
         owner: u32,
         target: Target,
@@ -101,15 +110,97 @@ impl Transfer {
     {
         Transfer {
             number,
-            owner,
+            owner: Some(owner),
+            direction: Direction::Outward,
+            class: Class::Copy,
             device: target.device,
             port: target.port,
             flow: target.flow,
+            addr: None,
+            region: None,
             offset,
             len,
-            ready: false,
+            phase: Phase::Queued,
             payload,
+            staged: 0,
             moved: 0,
+            stored: 0,
+            note: Note::Whole,
+        }
+    }
+
+    pub(crate) fn owner(&self) -> Option<u32>
+        ensures { result ≡ self.now.owner }
+    {
+        self.owner
+    }
+
+    pub(crate) fn direction(&self) -> Direction
+        ensures { result ≡ self.now.direction }
+    {
+        self.direction
+    }
+
+    pub(crate) fn class(&self) -> Class
+        ensures { result ≡ self.now.class }
+    {
+        self.class
+    }
+
+    pub(crate) fn is_strong(&self) -> bool
+        ensures { result ≡ is_strong self.now.class }
+    {
+        self.class.is_strong()
+    }
+
+    pub(crate) fn device(&self) -> u32
+        ensures { result ≡ self.now.device }
+    {
+        self.device
+    }
+
+    pub(crate) fn region(&self) -> Option<u32>
+        ensures { result ≡ self.now.region }
+    {
+        self.region
+    }
+
+    pub(crate) fn offset(&self) -> u32
+        ensures { result ≡ self.now.offset }
+    {
+        self.offset
+    }
+
+    pub(crate) fn payload(&self) -> &[u8]
+        ensures { result.now ≡ self.now.payload }
+    {
+        self.payload.as_slice()
+    }
+
+    pub(crate) fn staged(&self) -> u32
+        ensures { result ≡ self.now.staged }
+    {
+        self.staged
+    }
+
+    // The address that it keeps, or 0.
+    pub(crate) fn address_or_zero(&self) -> u32
+        ensures { result ≡ address_or_zero self.now.addr }
+    {
+        match self.addr {
+            Some(addr) => addr,
+            None => 0,
+        }
+    }
+
+    // The reply to its `done`, with the address where the system placed its buffer.
+    pub(crate) fn arrived(&self, at: Option<u32>) -> Reply
+        ensures { result ≡ Reply.Input at self.now.stored self.now.note }
+    {
+        Reply::Input {
+            at,
+            n: self.stored,
+            note: self.note,
         }
     }
 
@@ -135,22 +226,74 @@ impl Transfer {
     pub(crate) fn is_ready(&self) -> bool
         ensures { result ≡ is_ready self.now.phase }
     {
-        self.ready
+        match self.phase {
+            Phase::Ready => true,
+            Phase::Queued | Phase::Posted | Phase::Moving => false,
+        }
+    }
+
+    fn is_queued(&self) -> bool
+        ensures { result ≡ is_queued self.now.phase }
+    {
+        match self.phase {
+            Phase::Queued => true,
+            Phase::Posted | Phase::Moving | Phase::Ready => false,
+        }
     }
 
     // Whether it waits for the device.
     pub(crate) fn is_queued_for(&self, device: u32) -> bool
         ensures { result ≡ waits_for device self.now }
     {
-        !self.ready && self.device == device
+        self.is_queued() && self.device == device
+    }
+
+    // Whether it names this region or orphan.
+    pub(crate) fn names(&self, number: u32) -> bool
+        ensures { result ≡ names number self.now }
+    {
+        match self.region {
+            Some(region) => region == number,
+            None => false,
+        }
+    }
+
+    // Whether it is weak and names this region or orphan.
+    pub(crate) fn names_weakly(&self, number: u32) -> bool
+        ensures { result ≡ names_weakly number self.now }
+    {
+        !self.class.is_strong() && self.names(number)
+    }
+
+    // Whether it is weak and covers this place of this region or orphan.
+    fn covers(&self, number: u32, place: u32) -> bool
+        ensures { result ≡ covers number place self.now }
+    {
+        self.names_weakly(number)
+            && self.offset <= place
+            && u64::from(place) < u64::from(self.offset) + u64::from(self.len)
+    }
+
+    // The pages that its range touches.
+    fn touched(&self, page: PageSize) -> u32
+        ensures { result ≡ touched page self.now }
+    {
+        match self.addr {
+            Some(addr) => span(addr, self.len, page),
+            None => span(self.offset, self.len, page),
+        }
     }
 
     // How many frames it may need.
     pub(crate) fn cost(&self, page: PageSize) -> u64
         ensures cost { result ≡ cost_of page self.now }
-        ensures most { result < 2 ^ 32 }
+        ensures most { result < 2 ^ 33 }
     {
-        u64::from(span(self.offset, self.len, page))
+        let touched = u64::from(self.touched(page));
+        match (self.class, self.direction) {
+            (Class::Copy, Direction::Inward) => 2 * touched,
+            _ => touched,
+        }
     }
 
     fn header_len(&self) -> u64
@@ -167,8 +310,8 @@ impl Transfer {
     }
 
     // Its record, in format 2 where it has a flow, else in format 1.
-    pub(crate) fn record(&self, alloc: Global) -> Result<Vec<u8>, NoMemory>
-        ensures { IfOk result (λ bytes. bytes.items ≡ record_of self.now) }
+    pub(crate) fn record(&self, alloc: Global, payload: &[u8]) -> Result<Vec<u8>, NoMemory>
+        ensures { IfOk result (λ bytes. bytes.items ≡ record_of self.now payload.now) }
     {
         let mut record = Vec::new(alloc);
         record.extend_from_slice(match self.flow {
@@ -180,7 +323,7 @@ impl Transfer {
         if let Some(flow) = self.flow {
             record.extend_from_slice(&flow.to_be_bytes())?;
         }
-        record.extend_from_slice(self.payload.as_slice())?;
+        record.extend_from_slice(payload)?;
         Ok(record)
     }
 
@@ -190,11 +333,39 @@ impl Transfer {
         ensures { self.new ≡ after_sending k self.old }
     {
         if k == self.unsent() {
-            self.ready = true;
+            self.phase = Phase::Ready;
             self.payload.clear();
         }
         self.moved += k;
     }
+
+    // `k` bytes more are staged, of which these are kept beside those that it has.
+    pub(crate) fn stage(&mut self, k: u32, bytes: &[u8]) -> Result<(), NoMemory>
+        requires { k ≤ self.old.len - self.old.staged }
+        ensures { OnOk result (self.new ≡ after_staging k bytes.now self.old) }
+    {
+        self.payload.extend_from_slice(bytes)?;
+        self.staged += k;
+        Ok(())
+    }
+}
+
+// Whether a weak one names this region or orphan.
+pub(crate) fn any_names_weakly(transfers: &[Transfer], number: u32) -> bool
+    ensures { result ≡ list_any (names_weakly number) transfers.now }
+{
+    transfers
+        .iter()
+        .any(|transfer| transfer.names_weakly(number))
+}
+
+// Whether a weak one covers this place of this region or orphan.
+pub(crate) fn any_covers(transfers: &[Transfer], number: u32, place: u32) -> bool
+    ensures { result ≡ list_any (covers number place) transfers.now }
+{
+    transfers
+        .iter()
+        .any(|transfer| transfer.covers(number, place))
 }
 
 // The first one that waits for a device.
@@ -219,7 +390,7 @@ pub(crate) fn numbered(transfers: &[Transfer], number: u32) -> Option<&Transfer>
 pub(crate) fn wired(transfers: &[Transfer], page: PageSize) -> u64
     requires { length transfers.now ≤ 64 }
     ensures cost { result ≡ sum_by (cost_of page) transfers.now }
-    ensures most { result ≤ 2 ^ 32 * length transfers.now }
+    ensures most { result ≤ 2 ^ 33 * length transfers.now }
 {
     let mut wired = 0;
     for transfer in transfers {
@@ -242,15 +413,35 @@ pub(crate) fn send_first(transfers: &mut [Transfer], device: u32, k: u64)
     }
 }
 
-// Without the one of this number.
-pub(crate) fn remove(transfers: &mut Vec<Transfer>, number: u32)
+// The next `k` bytes of the first one that waits for a device are staged.
+pub(crate) fn stage_first(
+    transfers: &mut [Transfer],
+    device: u32,
+    k: u32,
+    bytes: &[u8],
+) -> Result<(), NoMemory>
+    requires { (t : Pending) → find (waits_for device) transfers.old ≡ Some t → k ≤ t.len - t.staged }
+    ensures { OnOk result (transfers.new ≡ change (waits_for device) (after_staging k bytes.now) transfers.old) }
+{
+    for i in 0..transfers.len() {
+        let transfer = &mut transfers[i];
+        if transfer.is_queued_for(device) {
+            return transfer.stage(k, bytes);
+        }
+    }
+    Ok(())
+}
+
+// Takes the one of this number out.
+pub(crate) fn take(transfers: &mut Vec<Transfer>, number: u32) -> Option<Transfer>
+    ensures found { result ≡ find (is_numbered number) transfers.old.items }
     ensures rest { transfers.new.items ≡ without (is_numbered number) transfers.old.items }
     ensures fewer { length transfers.new.items ≤ length transfers.old.items }
 {
     for i in 0..transfers.len() {
         if transfers[i].number() == number {
-            transfers.remove(i);
-            return;
+            return Some(transfers.remove(i));
         }
     }
+    None
 }

@@ -1,6 +1,6 @@
 use Rattle.std.proofs.Common.{◌≡◌, ◌≤◌, ◌*◌, ◌^◌, take}
 use Rattle.std.specs.Prelude.{sum_by}
-use Rattle.genie_model.specs.State.{region_pages}
+use Rattle.genie_model.specs.Regions.{region_pages}
 use Rattle.genie_model.proofs.table.committed.Given as goal
 
 abbrev pub invariant-loop-process : goal.invariant-loop-process

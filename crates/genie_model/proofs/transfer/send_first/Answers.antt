@@ -1,6 +1,7 @@
 use Rattle.std.proofs.Common.{◌≡◌, get_or, sym, ◌∙◌, true, arith}
-use Rattle.genie_model.specs.State.{Transfer, waits_for}
-use Rattle.genie_model.specs.Step.{after_sending}
+use Rattle.genie_model.specs.State.{Transfer}
+use Rattle.genie_model.specs.Pending.{waits_for}
+use Rattle.genie_model.specs.Sending.{after_sending}
 use Rattle.genie_model.proofs.First.{passed_changed, passed_unchanged}
 use Rattle.genie_model.proofs.transfer.send_first.Goals as goal
 

@@ -1,5 +1,5 @@
 use Rattle.std.proofs.Common.{◌≡◌}
-use Rattle.genie_model.specs.State.{waits_for}
+use Rattle.genie_model.specs.Pending.{waits_for}
 use Rattle.genie_model.proofs.First.{Passed}
 use Rattle.genie_model.proofs.transfer.send_first.Given as goal
 

@@ -1,5 +1,5 @@
 use Rattle.std.proofs.Common.{◌≡◌, zero, suc, ◌-◌, true, false, sym, ◌∙◌, arith}
-use Rattle.genie_model.specs.State.{is_used}
+use Rattle.genie_model.specs.Regions.{is_used}
 use Rattle.genie_model.proofs.Fresh.{fresh_begins, fresh_found, fresh_goes_on, fresh_ends}
 use Rattle.genie_model.proofs.machine.Machine.fresh.Goals as goal
 

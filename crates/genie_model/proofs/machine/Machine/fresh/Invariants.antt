@@ -1,5 +1,5 @@
 use Rattle.std.proofs.Common.{◌≡◌, ℕ, ◌+◌}
-use Rattle.genie_model.specs.State.{least_unused, fresh}
+use Rattle.genie_model.specs.Regions.{least_unused, fresh}
 use Rattle.genie_model.proofs.machine.Machine.fresh.Given as goal
 
 abbrev pub invariant-loop-number : goal.invariant-loop-number
