@@ -1,9 +1,11 @@
 pub mod Booting
 pub mod Collecting
 pub mod First
+pub mod Forking
 pub mod Fresh
 pub mod Growing
 pub mod InPlace
 pub mod Placing
 pub mod Quiet
+pub mod Results
 pub mod Rows

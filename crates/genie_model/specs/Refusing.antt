@@ -4,7 +4,7 @@ use Rattle.std.specs.List.{list_any}
 use Rattle.std.specs.Option.{option_map}
 use Rattle.genie_base.specs.Configs.{DeviceConfig, most, pool_of}
 use Rattle.genie_base.specs.Counts.{span, cost}
-use Rattle.genie_base.specs.Regions.{is_free}
+use Rattle.genie_base.specs.Regions.{is_free, is_accessible}
 use Rattle.genie_base.specs.Transfers.{class_of, is_strong, is_system}
 use Rattle.genie_base.specs.declared.event.Event.{Event}
 use Rattle.genie_base.specs.declared.event.Event.TheVariants.{Spawn, Fork, Exit, Map, Alloc, Unmap, Protect, Read, Write, Output, Input, Send, Recv, Finish, Cancel, Pageout}
@@ -21,7 +21,7 @@ use Rattle.genie_model.specs.State.{State, Region, Transfer}
 use Rattle.genie_model.specs.Tables.{entry}
 use Rattle.genie_model.specs.Regions.{extent_of, regions_at, is_here, is_alive, reach_of, write_reach_of, place_of, committed}
 use Rattle.genie_model.specs.Pending.{wired, is_ready, is_posted, is_inward, names_weakly, pending}
-use Rattle.genie_model.specs.Space.{accessible, region_from}
+use Rattle.genie_model.specs.Space.{region_from}
 use Rattle.genie_model.specs.Inputs.{pages_for, reusable, address_or_zero}
 
 abbrev pub is_within : ℕ → ℕ → ℕ → Bool
@@ -62,6 +62,10 @@ is_weak_input_into k t = is_inward t.direction && names_weakly k t
 abbrev pub must_stay_writable : State → Option Region → Bool
 must_stay_writable s None = false
 must_stay_writable s (Some r) = not (is_live r.state) || list_any (is_weak_input_into r.number) s.transfers
+
+-- the pages of a region that a child gets a copy of
+abbrev pub accessible_pages : Region → ℕ
+accessible_pages r = if is_accessible r.state then r.pages else 0
 
 abbrev pub is_finished : Option Transfer → Bool
 is_finished None = false
@@ -113,7 +117,7 @@ abbrev pub causes : State → Event → List (Bool × Refusal)
 causes s (Spawn p) = (nat_lt 15 p, cause.Proc) ∷ (is_alive s p, cause.Exists) ∷ []
 causes s (Fork p q) = (not (is_alive s p) || nat_lt 15 q, cause.Proc)
     ∷ (is_alive s q, cause.Exists)
-    ∷ (over_backing s (sum_by (λ r. r.pages) (accessible (regions_at s p))), cause.Backing)
+    ∷ (over_backing s (sum_by accessible_pages (regions_at s p)), cause.Backing)
     ∷ []
 causes s (Exit p) = (not (is_alive s p), cause.Proc) ∷ []
 causes s (Map p g n) = (not (is_alive s p), cause.Proc)

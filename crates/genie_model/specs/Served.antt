@@ -12,15 +12,15 @@ is_copy Share = false
 is_copy Move = false
 is_copy WeakMove = false
 
--- Processes, mapped pages, accesses, outputs by copy, send steps and completions are; the others come later.
+-- The events on address spaces, outputs by copy, send steps and completions are; the others come later.
 abbrev pub is_served : Event → Bool
 is_served (Spawn p) = true
-is_served (Fork p q) = false
-is_served (Exit p) = false
+is_served (Fork p q) = true
+is_served (Exit p) = true
 is_served (Map p g n) = true
-is_served (Alloc p n) = false
-is_served (Unmap p g) = false
-is_served (Protect p g writable) = false
+is_served (Alloc p n) = true
+is_served (Unmap p g) = true
+is_served (Protect p g writable) = true
 is_served (Read p a n) = true
 is_served (Write p a bytes) = true
 is_served (Output p sem d port flow a n) = is_copy (class_of sem)
@@ -29,4 +29,4 @@ is_served (Send d n) = true
 is_served (Recv d n) = false
 is_served (Finish k) = true
 is_served (Cancel k) = false
-is_served (Pageout n) = false
+is_served (Pageout n) = true

@@ -1,11 +1,14 @@
 //! What is left of a region that was removed.
-ghost use Rattle.std.specs.Prelude.{◌≡◌, ℕ, ◌+◌, ◌<◌, ◌≤◌, ◌^◌, Some, length, map, filter, find, IfOk, OnOk, ◌++◌};
+ghost use Rattle.std.specs.Prelude.{◌≡◌, ℕ, ◌+◌, ◌<◌, ◌≤◌, ◌^◌, ◌++◌, Some, length, map, filter, find, insert, IfOk, OnOk};
 ghost use Rattle.std.specs.List.{list_any};
 ghost use Rattle.std.specs.Option.{option_copied};
 ghost use Rattle.genie_model.specs.Regions.{is_orphan, is_within_range, orphan_part, bytes_within, byte_within, stored_at, stored_in_orphan};
 ghost use Rattle.genie_model.specs.Pending.{covers, names_weakly};
-ghost use Rattle.genie_model.specs.Space.{placed, cut, is_named};
+ghost use Rattle.genie_model.specs.Space.{placed, as_orphan, add_orphan, add_orphans, cut, is_named};
+ghost use Rattle.genie_model.specs.State.{Orphan as Left};
+ghost use Rattle.genie_model.specs.Tables.{put_in};
 
+use crate::region::Region;
 use crate::transfer::{Transfer, any_covers, any_names_weakly};
 use genie_base::NoMemory;
 use std::alloc::Global;
@@ -87,7 +90,35 @@ fn drop_uncovered(pairs: &mut Vec<(u32, u8)>, transfers: &[Transfer], number: u3
     pairs.retain(|pair| any_covers(transfers, number, pair.0));
 }
 
+// Bytes with their places, from 0 on.
+fn placed(alloc: Global, bytes: &[u8]) -> Result<Vec<(u32, u8)>, NoMemory>
+    requires { length bytes.now < 2 ^ 32 }
+    ensures { IfOk result (λ pairs. pairs.items ≡ placed 0 bytes.now) }
+{
+    let mut pairs = Vec::new(alloc);
+    for (i, byte) in bytes.iter().enumerate() {
+        match pairs.push((i as u32, *byte)) {
+            Ok(()) => {}
+            Err(_) => return Err(NoMemory),
+        }
+    }
+    Ok(pairs)
+}
+
 impl Orphan {
+    // What is left of a region before it is cut.
+    pub(crate) fn of(alloc: Global, region: &Region) -> Result<Orphan, NoMemory>
+        ensures { IfOk result (λ o. o ≡ as_orphan region.now) }
+    {
+        match placed(alloc, region.bytes()) {
+            Ok(bytes) => Ok(Orphan {
+                number: region.number(),
+                bytes,
+            }),
+            Err(error) => Err(error),
+        }
+    }
+
     pub(crate) fn number(&self) -> u32
         ensures { result ≡ self.now.number }
     {
@@ -152,6 +183,57 @@ pub(crate) fn tidy(orphans: &mut Vec<Orphan>, transfers: &[Transfer])
 {
     drop_unnamed(orphans, transfers);
     cut_all(orphans.as_mut_slice(), transfers);
+}
+
+// Where an orphan of this number belongs.
+fn place_for(orphans: &[Orphan], number: u32) -> usize
+    ensures within { result ≤ length orphans.now }
+    ensures place { (o : Left) → o.number ≡ number → insert orphans.now result o ≡ put_in (λ q. q.number) o orphans.now }
+{
+    for (i, orphan) in orphans.iter().enumerate() {
+        if number < orphan.number() {
+            return i;
+        }
+    }
+    orphans.len()
+}
+
+// One orphan more, in its place.
+pub(crate) fn insert_orphan(orphans: &mut Vec<Orphan>, orphan: Orphan) -> Result<(), NoMemory>
+    ensures { OnOk result (orphans.new.items ≡ put_in (λ q. q.number) orphan orphans.old.items) }
+{
+    let at = place_for(orphans.as_slice(), orphan.number());
+    match orphans.insert(at, orphan) {
+        Ok(()) => Ok(()),
+        Err(_) => Err(NoMemory),
+    }
+}
+
+// A region is an orphan from now on.
+fn add_orphan(alloc: Global, orphans: &mut Vec<Orphan>, region: &Region) -> Result<(), NoMemory>
+    ensures { OnOk result (orphans.new.items ≡ add_orphan region.now orphans.old.items) }
+{
+    match Orphan::of(alloc, region) {
+        Ok(orphan) => insert_orphan(orphans, orphan),
+        Err(error) => Err(error),
+    }
+}
+
+// All these regions are orphans from now on.
+pub(crate) fn add_orphans(
+    alloc: Global,
+    orphans: &mut Vec<Orphan>,
+    regions: &[Region],
+) -> Result<(), NoMemory>
+    ensures { OnOk result (orphans.new.items ≡ add_orphans regions.now orphans.old.items) }
+{
+    for region in regions {
+        match add_orphan(alloc, orphans, region) {
+            Ok(()) => {}
+            Err(error) => return Err(error),
+        }
+    }
+    Ok(())
 }
 
 // Whether one of them has this number.

@@ -1,12 +1,14 @@
 //! A process with its regions.
-ghost use Rattle.std.specs.Prelude.{◌≡◌, ◌==◌, ℕ, ◌+◌, ◌*◌, ◌<◌, ◌≤◌, ◌^◌, [], length, map, find, sum_by, insert, OnOk, OnErr, Some};
+ghost use Rattle.std.specs.Prelude.{◌≡◌, ◌==◌, ℕ, ◌+◌, ◌*◌, ◌<◌, ◌≤◌, ◌^◌, [], length, map, find, filter, sum_by, insert, OnOk, OnErr, IfOk, IfSome, Some, ◌++◌, not};
 ghost use Rattle.std.specs.List.{list_any};
 ghost use Rattle.std.specs.Option.{option_copied};
-ghost use Rattle.genie_base.specs.Regions.{reach, is_free, add_in_order};
+ghost use Rattle.genie_base.specs.Regions.{reach, is_free, place, add_in_order};
 ghost use Rattle.genie_model.specs.State.{Region as Placed};
-ghost use Rattle.genie_model.specs.Changes.{change_of};
-ghost use Rattle.genie_model.specs.Regions.{extent_of, region_pages, has_number, is_region, changed, changed_in};
-ghost use Rattle.genie_model.specs.Space.{with_region, starts_at};
+ghost use Rattle.genie_base.specs.declared.region.RegionState.TheVariants.{Live};
+ghost use Rattle.genie_model.specs.Changes.{change_of, live_copy};
+ghost use Rattle.genie_model.specs.Regions.{extent_of, region_pages, has_number, is_region, changed, changed_in, with_state};
+ghost use Rattle.genie_model.specs.Refusing.{accessible_pages};
+ghost use Rattle.genie_model.specs.Space.{with_region, without_region, starts_at, accessible};
 
 use crate::change::Change;
 use crate::region::Region;
@@ -75,6 +77,79 @@ fn sum_of_pages(regions: &[Region]) -> u64
         pages += u64::from(region.pages());
     }
     pages
+}
+
+fn sum_of_accessible(regions: &[Region]) -> u64
+    requires { length regions.now ≤ 32 }
+    ensures pages { result ≡ sum_by accessible_pages regions.now }
+    ensures most { result ≤ 2 ^ 32 * length regions.now }
+{
+    let mut pages = 0;
+    for region in regions {
+        pages += u64::from(region.accessible_pages());
+    }
+    pages
+}
+
+// The lowest start in the system area at which so many pages are free.
+fn place(regions: &[Region], pages: u32) -> Option<u32>
+    requires { pages ≤ 64 }
+    ensures place { result ≡ place extent_of pages regions.now }
+    ensures low { IfSome result (λ start. start ≤ 1024) }
+{
+    for start in 512..1025 - pages {
+        if all_apart(regions, start, pages) {
+            return Some(start);
+        }
+    }
+    None
+}
+
+// Appends a live copy of a region, if it is accessible.
+fn push_copy(alloc: Global, copies: &mut Vec<Region>, region: &Region) -> Result<(), NoMemory>
+    ensures copies { OnOk result (copies.new.items ≡ copies.old.items ++ live_copy region.now) }
+    ensures few { OnOk result (length copies.new.items ≤ length copies.old.items + 1) }
+{
+    if !region.is_accessible() {
+        return Ok(());
+    }
+    match region.copy(alloc, region.number()) {
+        Ok(copy) => match copies.push(copy) {
+            Ok(()) => Ok(()),
+            Err(_) => Err(NoMemory),
+        },
+        Err(error) => Err(error),
+    }
+}
+
+// Live copies of the accessible ones.
+fn live_copies(alloc: Global, regions: &[Region]) -> Result<Vec<Region>, NoMemory>
+    ensures copies { IfOk result (λ copies. copies.items ≡ map (with_state Live) (accessible regions.now)) }
+    ensures few { IfOk result (λ copies. length copies.items ≤ length regions.now) }
+{
+    let mut copies = Vec::new(alloc);
+    for region in regions {
+        match push_copy(alloc, &mut copies, region) {
+            Ok(()) => {}
+            Err(error) => return Err(error),
+        }
+    }
+    Ok(copies)
+}
+
+// The other regions.
+fn drop_region(regions: &mut Vec<Region>, number: u32)
+    ensures rest { regions.new.items ≡ filter (λ r. not (is_region number r)) regions.old.items }
+    ensures fewer { length regions.new.items ≤ length regions.old.items }
+{
+    regions.retain(|region| !region.is_region(number));
+}
+
+// The other numbers of a weak queue.
+fn drop_number(queue: &mut Vec<u32>, number: u32)
+    ensures { queue.new.items ≡ filter (λ n. not (n == number)) queue.old.items }
+{
+    queue.retain(|n| *n != number);
 }
 
 fn change_in_all(regions: &mut [Region], number: u32, change: &Change)
@@ -158,6 +233,39 @@ impl Process {
         ensures most { result ≤ 2 ^ 37 }
     {
         sum_of_pages(self.regions.as_slice())
+    }
+
+    // The pages of its accessible regions.
+    pub(crate) fn accessible_pages(&self) -> u64
+        ensures pages { result ≡ sum_by accessible_pages self.now.regions }
+        ensures most { result ≤ 2 ^ 37 }
+    {
+        sum_of_accessible(self.regions.as_slice())
+    }
+
+    // The lowest start in the system area at which so many pages are free.
+    pub(crate) fn place(&self, pages: u32) -> Option<u32>
+        requires { pages ≤ 64 }
+        ensures place { result ≡ place extent_of pages self.now.regions }
+        ensures low { IfSome result (λ start. start ≤ 1024) }
+    {
+        place(self.regions.as_slice(), pages)
+    }
+
+    // Live copies of its accessible regions.
+    pub(crate) fn copies(&self, alloc: Global) -> Result<Vec<Region>, NoMemory>
+        ensures copies { IfOk result (λ copies. copies.items ≡ map (with_state Live) (accessible self.now.regions)) }
+        ensures few { IfOk result (λ copies. length copies.items ≤ 32) }
+    {
+        live_copies(alloc, self.regions.as_slice())
+    }
+
+    // Without region `number`, also in its weak queue.
+    pub(crate) fn remove(&mut self, number: u32)
+        ensures { self.new ≡ without_region number self.old }
+    {
+        drop_number(&mut self.queue, number);
+        drop_region(&mut self.regions, number);
     }
 
     // Whether one of its regions has this number.

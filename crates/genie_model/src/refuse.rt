@@ -1,18 +1,19 @@
 //! Which events the plain machine refuses.
-ghost use Rattle.std.specs.Prelude.{◌≡◌, ◌==◌, ℕ, ◌+◌, ◌-◌, ◌*◌, ◌<◌, ◌≤◌, ◌^◌, ◌&&◌, Option, length, IsTrue};
+ghost use Rattle.std.specs.Prelude.{◌≡◌, ◌==◌, ℕ, ◌+◌, ◌-◌, ◌*◌, ◌<◌, ◌≤◌, ◌^◌, ◌&&◌, Option, Some, length, sum_by, IsTrue};
 ghost use Rattle.genie_base.specs.declared.event.Event.TheVariants as event;
 ghost use Rattle.genie_base.specs.Regions.{is_free};
 ghost use Rattle.genie_base.specs.Transfers.{class_of};
 ghost use Rattle.genie_base.specs.declared.semantics.Semantics.{Semantics as Call};
 ghost use Rattle.genie_model.specs.Regions.{extent_of, regions_at, committed};
 ghost use Rattle.genie_model.specs.Pending.{wired};
-ghost use Rattle.genie_model.specs.Refusing.{refuse, causes, first_cause, has_output, most_of, frames_to_wire};
+ghost use Rattle.genie_model.specs.Refusing.{refuse, causes, first_cause, new_region_causes, accessible_pages, over_backing, must_stay_writable, has_output, most_of, frames_to_wire};
 ghost use Rattle.genie_model.specs.Served.{is_served};
 ghost use Rattle.genie_model.specs.Tables.{entry};
 
 use crate::machine::Machine;
+use crate::region::Region;
 use crate::table;
-use crate::transfer::{numbered, wired};
+use crate::transfer::{any_weak_input_into, numbered, wired};
 use genie_base::{Class, Event, Refusal, span};
 
 /// The most regions that a process may have.
@@ -61,10 +62,30 @@ impl Machine {
     }
 
     // How many pages a region of `pages` more would make of all regions.
-    fn committed_with(&self, pages: u32) -> u64
+    fn committed_with(&self, pages: u64) -> u64
+        requires { pages ≤ 2 ^ 37 }
         ensures { result ≡ committed self.now + pages }
     {
-        table::committed(self.processes.as_slice()) + u64::from(pages)
+        table::committed(self.processes.as_slice()) + pages
+    }
+
+    // Whether so many pages more would not fit the store.
+    fn over_backing(&self, pages: u64) -> bool
+        requires { pages ≤ 2 ^ 37 }
+        ensures { result ≡ over_backing self.now pages }
+    {
+        self.committed_with(pages) > u64::from(self.config.slots)
+    }
+
+    // The pages of the accessible regions of a process.
+    fn accessible_pages(&self, pid: u32) -> u64
+        ensures pages { result ≡ sum_by accessible_pages (regions_at self.now pid) }
+        ensures most { result ≤ 2 ^ 37 }
+    {
+        match table::entry_of(self.processes.as_slice(), pid) {
+            Some(process) => process.accessible_pages(),
+            None => 0,
+        }
     }
 
     // How many frames the pending transfers and one more of this cost may need.
@@ -110,10 +131,95 @@ impl Machine {
         if self.count_of(pid) >= MOST_REGIONS {
             return Some(Refusal::Regions);
         }
-        if self.committed_with(pages) > u64::from(self.config.slots) {
+        if self.over_backing(u64::from(pages)) {
             return Some(Refusal::Backing);
         }
         None
+    }
+
+    // Why a process may not have a new region of the system's.
+    fn refuse_new_region(&self, pid: u32, pages: u32) -> Option<Refusal>
+        requires { pages ≤ 64 }
+        ensures { result ≡ first_cause (new_region_causes self.now pid pages) }
+    {
+        if self.count_of(pid) >= MOST_REGIONS {
+            return Some(Refusal::Regions);
+        }
+        if self.place_of(pid, pages).is_none() {
+            return Some(Refusal::Space);
+        }
+        if self.over_backing(u64::from(pages)) {
+            return Some(Refusal::Backing);
+        }
+        None
+    }
+
+    fn refuse_alloc(&self, pid: u32, pages: u32) -> Option<Refusal>
+        ensures { result ≡ first_cause (causes self.now (event.Alloc pid pages)) }
+    {
+        if !self.is_alive(pid) {
+            return Some(Refusal::Proc);
+        }
+        if !(1 <= pages && pages <= 64) {
+            return Some(Refusal::Range);
+        }
+        self.refuse_new_region(pid, pages)
+    }
+
+    fn refuse_fork(&self, parent: u32, child: u32) -> Option<Refusal>
+        ensures { result ≡ first_cause (causes self.now (event.Fork parent child)) }
+    {
+        if !self.is_alive(parent) || child > 15 {
+            return Some(Refusal::Proc);
+        }
+        if self.is_alive(child) {
+            return Some(Refusal::Exists);
+        }
+        if self.over_backing(self.accessible_pages(parent)) {
+            return Some(Refusal::Backing);
+        }
+        None
+    }
+
+    fn refuse_exit(&self, pid: u32) -> Option<Refusal>
+        ensures { result ≡ first_cause (causes self.now (event.Exit pid)) }
+    {
+        if !self.is_alive(pid) {
+            return Some(Refusal::Proc);
+        }
+        None
+    }
+
+    fn refuse_unmap(&self, pid: u32, page: u32) -> Option<Refusal>
+        ensures { result ≡ first_cause (causes self.now (event.Unmap pid page)) }
+    {
+        if !self.is_alive(pid) {
+            return Some(Refusal::Proc);
+        }
+        if self.region_from(pid, page).is_some() {
+            return None;
+        }
+        Some(Refusal::Region)
+    }
+
+    // Whether a weak move has a region under way, or a weak input may still store in it.
+    fn must_stay_writable(&self, region: &Region) -> bool
+        ensures { result ≡ must_stay_writable self.now (Some region.now) }
+    {
+        !region.is_live() || any_weak_input_into(self.transfers.as_slice(), region.number())
+    }
+
+    fn refuse_protect(&self, pid: u32, page: u32, writable: bool) -> Option<Refusal>
+        ensures { result ≡ first_cause (causes self.now (event.Protect pid page writable)) }
+    {
+        if !self.is_alive(pid) {
+            return Some(Refusal::Proc);
+        }
+        match self.region_from(pid, page) {
+            None => Some(Refusal::Region),
+            Some(region) if !writable && self.must_stay_writable(region) => Some(Refusal::State),
+            Some(_) => None,
+        }
     }
 
     fn refuse_read(&self, pid: u32, addr: u32, len: u32) -> Option<Refusal>
@@ -197,7 +303,16 @@ impl Machine {
     {
         match event {
             Event::Spawn { pid } => self.refuse_spawn(*pid),
+            Event::Fork { parent, child } => self.refuse_fork(*parent, *child),
+            Event::Exit { pid } => self.refuse_exit(*pid),
             Event::Map { pid, page, pages } => self.refuse_map(*pid, *page, *pages),
+            Event::Alloc { pid, pages } => self.refuse_alloc(*pid, *pages),
+            Event::Unmap { pid, page } => self.refuse_unmap(*pid, *page),
+            Event::Protect {
+                pid,
+                page,
+                writable,
+            } => self.refuse_protect(*pid, *page, *writable),
             Event::Read { pid, addr, len } => self.refuse_read(*pid, *addr, *len),
             Event::Write { pid, addr, bytes } => self.refuse_write(*pid, *addr, bytes.as_slice()),
             Event::Output {
@@ -209,6 +324,7 @@ impl Machine {
             } => self.refuse_copy_out(*pid, *dev, *addr, *len),
             Event::Send { dev, len } => self.refuse_send(*dev, *len),
             Event::Finish { id } => self.refuse_finish(*id),
+            Event::Pageout { .. } => None,
             _ => unreachable!(),
         }
     }

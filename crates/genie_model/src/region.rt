@@ -1,10 +1,11 @@
 //! A region with its bytes as one list.
-ghost use Rattle.std.specs.Prelude.{◌≡◌, ℕ, ◌+◌, ◌-◌, ◌*◌, ◌<◌, ◌≤◌, ◌^◌, Bool, true, nat_le, replicate, IfOk};
+ghost use Rattle.std.specs.Prelude.{◌≡◌, ℕ, ◌+◌, ◌-◌, ◌*◌, ◌<◌, ◌≤◌, ◌^◌, Bool, true, nat_le, length, replicate, IfOk};
 ghost use Rattle.genie_base.specs.Bytes.{part as part_of};
 ghost use Rattle.genie_base.specs.Regions.{is_reached, is_apart, is_accessible};
 ghost use Rattle.genie_base.specs.declared.region.RegionState.TheVariants.{Live};
 ghost use Rattle.genie_model.specs.Changes.{change_of};
 ghost use Rattle.genie_model.specs.Regions.{extent_of, changed, is_region};
+ghost use Rattle.genie_model.specs.Refusing.{accessible_pages, is_live};
 ghost use Rattle.genie_model.specs.Space.{starts_at};
 
 use crate::change::Change;
@@ -25,14 +26,14 @@ pub(crate) struct Region {
 }
 
 impl Model for Region {
-    ghost use Rattle.std.specs.Prelude.{◌≤◌};
+    ghost use Rattle.std.specs.Prelude.{◌<◌, ◌≤◌, ◌^◌, length};
     ghost use Rattle.genie_model.specs.State as flat;
 
     ghost Value = { flat.Region };
 
     ghost view = { λ r. record { number = r.number; start = r.start; pages = r.pages; area = r.area; state = r.state; writable = r.writable; bytes = r.bytes.items } };
 
-    ghost invariant = { λ r. r.start ≤ 1024 };
+    ghost invariant = { λ r. (r.start ≤ 1024) × (length r.bytes.items < 2 ^ 32) };
 }
 
 /// Where a region lies, and what it is used for.
@@ -52,7 +53,8 @@ impl Region {
         purpose: Purpose,
         page: PageSize,
     ) -> Result<Region, NoMemory>
-        requires { purpose.start ≤ 1024 }
+        requires start { purpose.start ≤ 1024 }
+        requires pages { purpose.pages ≤ 64 }
         ensures { IfOk result (λ r. r ≡ record { number = number; start = purpose.start; pages = purpose.pages; area = purpose.area; state = purpose.state; writable = true; bytes = replicate (purpose.pages * page) 0 }) }
     {
         let size = purpose.pages as usize * page.get() as usize;
@@ -133,6 +135,22 @@ impl Region {
         }
     }
 
+    pub(crate) fn is_live(&self) -> bool
+        ensures { result ≡ is_live self.now.state }
+    {
+        match self.state {
+            RegionState::Live => true,
+            RegionState::Out | RegionState::In | RegionState::Held => false,
+        }
+    }
+
+    // Its pages, if it is accessible, else 0.
+    pub(crate) fn accessible_pages(&self) -> u32
+        ensures { result ≡ accessible_pages self.now }
+    {
+        if self.is_accessible() { self.pages } else { 0 }
+    }
+
     // Whether it is accessible and starts at a page.
     pub(crate) fn starts_at(&self, page: u32) -> bool
         ensures { result ≡ starts_at page self.now }
@@ -183,7 +201,8 @@ impl Region {
     }
 
     pub(crate) fn bytes(&self) -> &[u8]
-        ensures { result.now ≡ self.now.bytes }
+        ensures bytes { result.now ≡ self.now.bytes }
+        ensures few { length result.now < 2 ^ 32 }
     {
         self.bytes.as_slice()
     }

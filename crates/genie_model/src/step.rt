@@ -54,6 +54,27 @@ impl Machine {
                 Ok(()) => Ok(Reply::Okay),
                 Err(error) => Err(error),
             },
+            Event::Fork { parent, child } => match self.fork(*parent, *child) {
+                Ok(()) => Ok(Reply::Okay),
+                Err(error) => Err(error),
+            },
+            Event::Exit { pid } => match self.exit(*pid) {
+                Ok(()) => Ok(Reply::Okay),
+                Err(error) => Err(error),
+            },
+            Event::Alloc { pid, pages } => self.alloc(*pid, *pages),
+            Event::Unmap { pid, page } => match self.unmap(*pid, *page) {
+                Ok(()) => Ok(Reply::Okay),
+                Err(error) => Err(error),
+            },
+            Event::Protect {
+                pid,
+                page,
+                writable,
+            } => {
+                self.protect(*pid, *page, *writable);
+                Ok(Reply::Okay)
+            }
             Event::Read { pid, addr, len } => Ok(Reply::Bytes(self.read(*pid, *addr, *len))),
             Event::Write { pid, addr, bytes } => {
                 self.write(*pid, *addr, bytes.as_slice());
@@ -81,6 +102,7 @@ impl Machine {
             }
             Event::Send { dev, len } => self.send(*dev, *len),
             Event::Finish { id } => Ok(self.finish(*id)),
+            Event::Pageout { .. } => Ok(Reply::Okay),
             _ => unreachable!(),
         }
     }

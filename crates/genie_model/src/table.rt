@@ -4,7 +4,7 @@ ghost use Rattle.std.specs.List.{list_any};
 ghost use Rattle.std.specs.Option.{option_copied};
 ghost use Rattle.genie_model.specs.Changes.{change_of};
 ghost use Rattle.genie_model.specs.Regions.{has_number, regions_of, region_pages, changed_in, change_process};
-ghost use Rattle.genie_model.specs.Space.{with_region};
+ghost use Rattle.genie_model.specs.Space.{with_region, without_region};
 ghost use Rattle.genie_model.specs.Sending.{change_device, with_sent};
 ghost use Rattle.genie_model.specs.Tables.{entry};
 
@@ -96,6 +96,44 @@ pub(crate) fn change_region(processes: &mut Vec<Option<Process>>, number: u32, c
     ensures places { length processes.new.items ≡ length processes.old.items }
 {
     change_in_each(processes.as_mut_slice(), number, change);
+}
+
+// Takes a process out.
+pub(crate) fn take_process(processes: &mut Vec<Option<Process>>, pid: u32) -> Option<Process>
+    ensures found { result ≡ entry processes.old.items pid }
+    ensures rest { processes.new.items ≡ slice_set processes.old.items pid None }
+    ensures places { length processes.new.items ≡ length processes.old.items }
+{
+    let pid = pid as usize;
+    if pid < processes.len() {
+        processes[pid].take()
+    } else {
+        None
+    }
+}
+
+fn remove_from(process: &mut Option<Process>, number: u32)
+    ensures { process.new ≡ change_process (without_region number) process.old }
+{
+    if let Some(process) = process {
+        process.remove(number);
+    }
+}
+
+fn remove_from_each(processes: &mut [Option<Process>], number: u32)
+    ensures { processes.new ≡ map (change_process (without_region number)) processes.old }
+{
+    for process in processes.iter_mut() {
+        remove_from(process, number);
+    }
+}
+
+// Takes region `number` away, whoever has it.
+pub(crate) fn remove_region(processes: &mut Vec<Option<Process>>, number: u32)
+    ensures rest { processes.new.items ≡ map (change_process (without_region number)) processes.old.items }
+    ensures places { length processes.new.items ≡ length processes.old.items }
+{
+    remove_from_each(processes.as_mut_slice(), number);
 }
 
 fn add_to(process: &mut Option<Process>, region: Region) -> Result<(), NoMemory>

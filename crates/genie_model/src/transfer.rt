@@ -1,5 +1,5 @@
 //! A pending transfer.
-ghost use Rattle.std.specs.Prelude.{◌≡◌, ◌==◌, ℕ, ◌+◌, ◌-◌, ◌*◌, ◌<◌, ◌≤◌, ◌^◌, Some, None, length, find, sum_by, IfOk, OnOk};
+ghost use Rattle.std.specs.Prelude.{◌≡◌, ◌==◌, ℕ, ◌+◌, ◌-◌, ◌*◌, ◌<◌, ◌≤◌, ◌^◌, Some, None, length, map, filter, not, find, sum_by, IfOk, OnOk};
 ghost use Rattle.std.specs.List.{list_any};
 ghost use Rattle.std.specs.Option.{option_copied};
 ghost use Rattle.genie_base.specs.Records.{header_bytes, header_len};
@@ -9,8 +9,10 @@ ghost use Rattle.genie_base.specs.declared.semantics.Class.TheVariants.{Copy};
 ghost use Rattle.genie_base.specs.declared.semantics.Direction.TheVariants.{Outward};
 ghost use Rattle.genie_model.specs.State.{Transfer as Pending};
 ghost use Rattle.genie_model.specs.declared.phase.Phase.TheVariants.{Queued};
-ghost use Rattle.genie_model.specs.Pending.{is_ready, is_queued, is_numbered, waits_for, touched, cost_of, names, names_weakly, covers};
+ghost use Rattle.genie_model.specs.Pending.{is_ready, is_queued, is_posted, is_just, is_inward, is_numbered, waits_for, touched, cost_of, names, names_weakly, covers};
 ghost use Rattle.genie_model.specs.Inputs.{address_or_zero};
+ghost use Rattle.genie_model.specs.Space.{disowned, is_posted_by};
+ghost use Rattle.genie_model.specs.Refusing.{is_weak_input_into};
 ghost use Rattle.genie_model.specs.Sending.{record_of, unsent, after_sending, after_staging};
 ghost use Rattle.genie_model.specs.Tables.{change, without};
 
@@ -241,6 +243,43 @@ impl Transfer {
         }
     }
 
+    fn is_posted(&self) -> bool
+        ensures { result ≡ is_posted self.now.phase }
+    {
+        match self.phase {
+            Phase::Posted => true,
+            Phase::Queued | Phase::Moving | Phase::Ready => false,
+        }
+    }
+
+    fn is_owned_by(&self, pid: u32) -> bool
+        ensures { result ≡ is_just self.now.owner pid }
+    {
+        match self.owner {
+            Some(owner) => owner == pid,
+            None => false,
+        }
+    }
+
+    // Whether it is a posted input of the process that no record has met.
+    fn is_posted_by(&self, pid: u32) -> bool
+        ensures { result ≡ is_posted_by pid self.now }
+    {
+        self.is_owned_by(pid) && self.is_posted()
+    }
+
+    // Without its owner, and as a move without its region, if the process has it.
+    fn disown(&mut self, pid: u32)
+        ensures { self.new ≡ disowned pid self.old }
+    {
+        if self.is_owned_by(pid) {
+            self.owner = None;
+            if self.class == Class::Move {
+                self.region = None;
+            }
+        }
+    }
+
     // Whether it waits for the device.
     pub(crate) fn is_queued_for(&self, device: u32) -> bool
         ensures { result ≡ waits_for device self.now }
@@ -263,6 +302,17 @@ impl Transfer {
         ensures { result ≡ names_weakly number self.now }
     {
         !self.class.is_strong() && self.names(number)
+    }
+
+    // Whether it is a weak input that names this region or orphan.
+    fn is_weak_input_into(&self, number: u32) -> bool
+        ensures { result ≡ is_weak_input_into number self.now }
+    {
+        let is_inward = match self.direction {
+            Direction::Inward => true,
+            Direction::Outward => false,
+        };
+        is_inward && self.names_weakly(number)
     }
 
     // Whether it is weak and covers this place of this region or orphan.
@@ -359,6 +409,15 @@ pub(crate) fn any_names_weakly(transfers: &[Transfer], number: u32) -> bool
         .any(|transfer| transfer.names_weakly(number))
 }
 
+// Whether a weak input names this region or orphan.
+pub(crate) fn any_weak_input_into(transfers: &[Transfer], number: u32) -> bool
+    ensures { result ≡ list_any (is_weak_input_into number) transfers.now }
+{
+    transfers
+        .iter()
+        .any(|transfer| transfer.is_weak_input_into(number))
+}
+
 // Whether a weak one covers this place of this region or orphan.
 pub(crate) fn any_covers(transfers: &[Transfer], number: u32, place: u32) -> bool
     ensures { result ≡ list_any (covers number place) transfers.now }
@@ -430,6 +489,31 @@ pub(crate) fn stage_first(
         }
     }
     Ok(())
+}
+
+// Ends the posted inputs of a process.
+fn end_posted(transfers: &mut Vec<Transfer>, pid: u32)
+    ensures rest { transfers.new.items ≡ filter (λ t. not (is_posted_by pid t)) transfers.old.items }
+    ensures fewer { length transfers.new.items ≤ length transfers.old.items }
+{
+    transfers.retain(|transfer| !transfer.is_posted_by(pid));
+}
+
+fn disown_each(transfers: &mut [Transfer], pid: u32)
+    ensures { transfers.new ≡ map (disowned pid) transfers.old }
+{
+    for transfer in transfers.iter_mut() {
+        transfer.disown(pid);
+    }
+}
+
+// Ends the posted inputs of a process, and takes the owner from its other transfers.
+pub(crate) fn disown_all(transfers: &mut Vec<Transfer>, pid: u32)
+    ensures rest { transfers.new.items ≡ map (disowned pid) (filter (λ t. not (is_posted_by pid t)) transfers.old.items) }
+    ensures fewer { length transfers.new.items ≤ length transfers.old.items }
+{
+    end_posted(transfers, pid);
+    disown_each(transfers.as_mut_slice(), pid);
 }
 
 // Takes the one of this number out.

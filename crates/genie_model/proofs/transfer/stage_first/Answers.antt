@@ -1,14 +1,10 @@
 use Rattle.std.proofs.Common.{◌≡◌, get_or, sym, ◌∙◌, true, arith}
-use Rattle.std.specs.Prelude.{OnOk, Ok, Err, Result}
 use Rattle.genie_model.specs.State.{Transfer}
 use Rattle.genie_model.specs.Pending.{waits_for}
 use Rattle.genie_model.specs.Sending.{after_staging}
 use Rattle.genie_model.proofs.First.{passed_changed}
+use Rattle.genie_model.proofs.Results.{on_ok}
 use Rattle.genie_model.proofs.transfer.stage_first.Goals as goal
-
-on_ok : {T E : Type 0} {P Q : Type 0} (r : Result T E) → (P → Q) → OnOk r P → OnOk r Q
-on_ok (Ok x) f p = f p
-on_ok (Err e) f p = p
 
 pub returns-then-is_queued_for : goal.returns-then-is_queued_for
 returns-then-is_queued_for c =
