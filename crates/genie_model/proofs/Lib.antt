@@ -1,4 +1,5 @@
 pub mod Booting
+pub mod Causes
 pub mod Collecting
 pub mod First
 pub mod Forking

@@ -112,6 +112,12 @@ sys_causes s p class most n = (not (is_within 1 most n), cause.Range) ∷ (if mu
 abbrev pub buffer_causes : State → ℕ → Class → ℕ → ℕ → ℕ → List (Bool × Refusal)
 buffer_causes s p class most a n = if is_system class then sys_causes s p class most n else app_causes s p most a n
 
+-- all causes of an input but the limits on pending transfers
+abbrev pub target_causes : State → ℕ → Class → ℕ → ℕ → ℕ → List (Bool × Refusal)
+target_causes s p class d a n = (not (is_alive s p), cause.Proc)
+    ∷ (not (has_input (entry s.config.devices d)), cause.Dev)
+    ∷ buffer_causes s p class (most_of s.config.page (entry s.config.devices d)) a n
+
 -- the causes of an event, each with whether it holds
 abbrev pub causes : State → Event → List (Bool × Refusal)
 causes s (Spawn p) = (nat_lt 15 p, cause.Proc) ∷ (is_alive s p, cause.Exists) ∷ []
@@ -145,9 +151,7 @@ causes s (Output p sem d port flow a n) = (not (is_alive s p), cause.Proc)
     ∷ (is_system (class_of sem) && not (is_strong (class_of sem)) && not (is_here (write_reach_of s p a n)), cause.Denied)
     ∷ (is_system (class_of sem) && not (may_move (reach_of s p a n)), cause.State)
     ∷ call_causes s (cost (class_of sem) Outward (span s.config.page a n))
-causes s (Input p sem d port flow addr n) = (not (is_alive s p), cause.Proc)
-    ∷ (not (has_input (entry s.config.devices d)), cause.Dev)
-    ∷ buffer_causes s p (class_of sem) (most_of s.config.page (entry s.config.devices d)) (address_or_zero addr) n
+causes s (Input p sem d port flow addr n) = target_causes s p (class_of sem) d (address_or_zero addr) n
     ++ call_causes s (cost (class_of sem) Inward (span s.config.page (address_or_zero addr) n))
 causes s (Send d n) = (not (has_output (entry s.config.devices d)), cause.Dev) ∷ (not (is_within 1 65536 n), cause.Range) ∷ []
 causes s (Recv d n) = (not (has_input (entry s.config.devices d)), cause.Dev) ∷ (not (is_within 1 65536 n), cause.Range) ∷ []

@@ -124,7 +124,7 @@ impl Machine {
     }
 
     // Takes a transfer out.
-    fn take(&mut self, id: u32) -> Option<Transfer>
+    pub(crate) fn take(&mut self, id: u32) -> Option<Transfer>
         ensures found { result ≡ pending self.old id }
         ensures rest { self.new ≡ without_transfer self.old id }
     {

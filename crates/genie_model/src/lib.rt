@@ -5,6 +5,7 @@ mod change;
 mod device;
 mod finish;
 pub mod flat;
+mod input;
 pub mod laws;
 mod machine;
 mod orphan;

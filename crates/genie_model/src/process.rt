@@ -7,12 +7,14 @@ ghost use Rattle.genie_model.specs.State.{Region as Placed};
 ghost use Rattle.genie_base.specs.declared.region.RegionState.TheVariants.{Live};
 ghost use Rattle.genie_model.specs.Changes.{change_of, live_copy};
 ghost use Rattle.genie_model.specs.Regions.{extent_of, region_pages, has_number, is_region, changed, changed_in, with_state};
+ghost use Rattle.genie_model.specs.Outputs.{moved_out_of};
+ghost use Rattle.genie_model.specs.Inputs.{moved_in_of};
 ghost use Rattle.genie_model.specs.Refusing.{accessible_pages};
 ghost use Rattle.genie_model.specs.Space.{with_region, without_region, starts_at, accessible};
 
 use crate::change::Change;
 use crate::region::Region;
-use genie_base::{NoMemory, PageSize};
+use genie_base::{NoMemory, PageSize, RegionState};
 use std::alloc::Global;
 use std::marker::Model;
 
@@ -182,6 +184,39 @@ impl Process {
             queue: Vec::new(alloc),
             regions: Vec::new(alloc),
         }
+    }
+
+    // Lends its weak queue.
+    pub(crate) fn queue(&self) -> &[u32]
+        ensures { result.now ≡ self.now.queue }
+    {
+        self.queue.as_slice()
+    }
+
+    // Region `number` is Out, at the end of the weak queue, if it has it.
+    pub(crate) fn move_out(&mut self, number: u32) -> Result<(), NoMemory>
+        ensures { OnOk result (self.new ≡ moved_out_of number self.old) }
+    {
+        if !self.has_number(number) {
+            return Ok(());
+        }
+        match self.queue.push(number) {
+            Ok(()) => {
+                let state = Change::State(RegionState::Out);
+                change_in_all(self.regions.as_mut_slice(), number, &state);
+                Ok(())
+            }
+            Err(_) => Err(NoMemory),
+        }
+    }
+
+    // Region `number` leaves the weak queue, and is In.
+    pub(crate) fn move_in(&mut self, number: u32)
+        ensures { self.new ≡ moved_in_of number self.old }
+    {
+        drop_number(&mut self.queue, number);
+        let state = Change::State(RegionState::In);
+        change_in_all(self.regions.as_mut_slice(), number, &state);
     }
 
     // Lends its regions.

@@ -1,20 +1,20 @@
 //! Which events the plain machine refuses.
 ghost use Rattle.std.specs.Prelude.{◌≡◌, ◌==◌, ℕ, ◌+◌, ◌-◌, ◌*◌, ◌<◌, ◌≤◌, ◌^◌, ◌&&◌, Option, Some, length, sum_by, IsTrue};
 ghost use Rattle.genie_base.specs.declared.event.Event.TheVariants as event;
+ghost use Rattle.genie_base.specs.Counts.{span, cost};
 ghost use Rattle.genie_base.specs.Regions.{is_free};
-ghost use Rattle.genie_base.specs.Transfers.{class_of};
-ghost use Rattle.genie_base.specs.declared.semantics.Semantics.{Semantics as Call};
-ghost use Rattle.genie_model.specs.Regions.{extent_of, regions_at, committed};
+ghost use Rattle.genie_model.specs.Regions.{extent_of, regions_at, reach_of, committed};
 ghost use Rattle.genie_model.specs.Pending.{wired};
-ghost use Rattle.genie_model.specs.Refusing.{refuse, causes, first_cause, new_region_causes, accessible_pages, over_backing, must_stay_writable, has_output, most_of, frames_to_wire};
+ghost use Rattle.genie_model.specs.Refusing.{refuse, causes, first_cause, new_region_causes, accessible_pages, over_backing, must_stay_writable, has_output, has_input, may_move, must_make, call_causes, app_causes, sys_causes, buffer_causes, target_causes, most_of, frames_to_wire};
 ghost use Rattle.genie_model.specs.Served.{is_served};
 ghost use Rattle.genie_model.specs.Tables.{entry};
 
+use crate::input::address_or_zero;
 use crate::machine::Machine;
 use crate::region::Region;
 use crate::table;
-use crate::transfer::{any_weak_input_into, numbered, wired};
-use genie_base::{Class, Event, Refusal, span};
+use crate::transfer::{any_weak_input_into, cost_of_span, numbered, wired};
+use genie_base::{Class, Direction, Event, Refusal, Semantics, span};
 
 /// The most regions that a process may have.
 const MOST_REGIONS: usize = 32;
@@ -33,9 +33,20 @@ impl Machine {
         }
     }
 
+    // Whether there is such a device, with an input.
+    fn has_input(&self, dev: u32) -> bool
+        ensures { result ≡ has_input (entry self.now.config.devices dev) }
+    {
+        match table::entry_of(&self.config.devices, dev) {
+            Some(device) => device.input.is_some(),
+            None => false,
+        }
+    }
+
     // The longest datagram of a device, in bytes.
     fn most_of(&self, dev: u32) -> u32
-        ensures { result ≡ most_of self.now.config.page (entry self.now.config.devices dev) }
+        ensures most { result ≡ most_of self.now.config.page (entry self.now.config.devices dev) }
+        ensures end { result ≤ 64 * self.now.config.page }
     {
         match table::entry_of(&self.config.devices, dev) {
             Some(device) => device.kind.most(self.page),
@@ -89,10 +100,11 @@ impl Machine {
     }
 
     // How many frames the pending transfers and one more of this cost may need.
-    fn wired_with(&self, cost: u32) -> u64
+    fn wired_with(&self, cost: u64) -> u64
+        requires { cost ≤ 2 ^ 33 }
         ensures { result ≡ wired self.now + cost }
     {
-        wired(self.transfers.as_slice(), self.page) + u64::from(cost)
+        wired(self.transfers.as_slice(), self.page) + cost
     }
 
     // How many frames the pending transfers may need at most.
@@ -252,8 +264,47 @@ impl Machine {
         }
     }
 
-    fn refuse_copy_out(&self, pid: u32, dev: u32, addr: u32, len: u32) -> Option<Refusal>
-        ensures { (sem : Call) (port : ℕ) (flow : Option ℕ) → class_of sem ≡ Class.Copy → result ≡ first_cause (causes self.now (event.Output pid sem dev port flow addr len)) }
+    // Why no further call of this cost is accepted.
+    fn refuse_call(&self, cost: u64) -> Option<Refusal>
+        requires { cost ≤ 2 ^ 33 }
+        ensures { result ≡ first_cause (call_causes self.now cost) }
+    {
+        if self.transfers.len() >= MOST_TRANSFERS {
+            return Some(Refusal::Transfers);
+        }
+        if self.wired_with(cost) > self.frames_to_wire() {
+            return Some(Refusal::Frames);
+        }
+        None
+    }
+
+    // How many frames a call may need.
+    fn call_cost(&self, class: Class, direction: Direction, addr: u32, len: u32) -> u64
+        ensures cost { result ≡ cost class direction (span self.now.config.page addr len) }
+        ensures most { result ≤ 2 ^ 33 }
+    {
+        cost_of_span(class, direction, span(addr, len, self.page))
+    }
+
+    // Whether the region that an access reaches is the system's, and no weak move has it under way.
+    fn may_move(&self, pid: u32, addr: u32, len: u32) -> bool
+        ensures { result ≡ may_move (reach_of self.now pid addr len) }
+    {
+        match self.reach(pid, addr, len) {
+            Some(region) => region.is_sys() && region.is_live(),
+            None => false,
+        }
+    }
+
+    fn refuse_output(
+        &self,
+        pid: u32,
+        sem: Semantics,
+        dev: u32,
+        addr: u32,
+        len: u32,
+    ) -> Option<Refusal>
+        ensures { (port : ℕ) (flow : Option ℕ) → result ≡ first_cause (causes self.now (event.Output pid sem dev port flow addr len)) }
     {
         if !self.is_alive(pid) {
             return Some(Refusal::Proc);
@@ -264,13 +315,116 @@ impl Machine {
         if !(len <= self.most_of(dev) && self.reach(pid, addr, len).is_some()) {
             return Some(Refusal::Range);
         }
-        if self.transfers.len() >= MOST_TRANSFERS {
-            return Some(Refusal::Transfers);
+        if sem.system() && !sem.strong() && self.write_reach(pid, addr, len).is_none() {
+            return Some(Refusal::Denied);
         }
-        if self.wired_with(span(addr, len, self.page)) > self.frames_to_wire() {
-            return Some(Refusal::Frames);
+        if sem.system() && !self.may_move(pid, addr, len) {
+            return Some(Refusal::State);
+        }
+        self.refuse_call(self.call_cost(sem.class(), Direction::Outward, addr, len))
+    }
+
+    // Why a buffer of the application's is refused.
+    fn refuse_app(&self, pid: u32, most: u32, addr: u32, len: u32) -> Option<Refusal>
+        ensures { result ≡ first_cause (app_causes self.now pid most addr len) }
+    {
+        if !(len <= most && self.reach(pid, addr, len).is_some()) {
+            return Some(Refusal::Range);
+        }
+        if self.write_reach(pid, addr, len).is_none() {
+            return Some(Refusal::Denied);
         }
         None
+    }
+
+    // Whether an input makes its region.
+    fn must_make(&self, pid: u32, class: Class, len: u32) -> bool
+        ensures { result ≡ must_make self.now pid class len }
+    {
+        match class {
+            Class::Copy | Class::Share => false,
+            Class::Move => true,
+            Class::WeakMove => self.reusable(pid, self.pages_for(len)).is_none(),
+        }
+    }
+
+    // Why a buffer of the system's is refused.
+    fn refuse_sys(&self, pid: u32, class: Class, most: u32, len: u32) -> Option<Refusal>
+        requires { most ≤ 64 * self.now.config.page }
+        ensures { result ≡ first_cause (sys_causes self.now pid class most len) }
+    {
+        if !(1 <= len && len <= most) {
+            return Some(Refusal::Range);
+        }
+        if self.must_make(pid, class, len) {
+            return self.refuse_new_region(pid, self.pages_for(len));
+        }
+        None
+    }
+
+    // Why the buffer of an input is refused.
+    fn refuse_buffer(
+        &self,
+        pid: u32,
+        class: Class,
+        most: u32,
+        addr: u32,
+        len: u32,
+    ) -> Option<Refusal>
+        requires { most ≤ 64 * self.now.config.page }
+        ensures { result ≡ first_cause (buffer_causes self.now pid class most addr len) }
+    {
+        if class.is_system() {
+            self.refuse_sys(pid, class, most, len)
+        } else {
+            self.refuse_app(pid, most, addr, len)
+        }
+    }
+
+    // Why an input is refused, but for the limits on pending transfers.
+    fn refuse_target(
+        &self,
+        pid: u32,
+        class: Class,
+        dev: u32,
+        addr: u32,
+        len: u32,
+    ) -> Option<Refusal>
+        ensures { result ≡ first_cause (target_causes self.now pid class dev addr len) }
+    {
+        if !self.is_alive(pid) {
+            return Some(Refusal::Proc);
+        }
+        if !self.has_input(dev) {
+            return Some(Refusal::Dev);
+        }
+        self.refuse_buffer(pid, class, self.most_of(dev), addr, len)
+    }
+
+    fn refuse_input(
+        &self,
+        pid: u32,
+        sem: Semantics,
+        dev: u32,
+        addr: Option<u32>,
+        len: u32,
+    ) -> Option<Refusal>
+        ensures { (port : ℕ) (flow : Option ℕ) → result ≡ first_cause (causes self.now (event.Input pid sem dev port flow addr len)) }
+    {
+        let addr = address_or_zero(addr);
+        match self.refuse_target(pid, sem.class(), dev, addr, len) {
+            Some(refusal) => Some(refusal),
+            None => self.refuse_call(self.call_cost(sem.class(), Direction::Inward, addr, len)),
+        }
+    }
+
+    fn refuse_cancel(&self, id: u32) -> Option<Refusal>
+        ensures { result ≡ first_cause (causes self.now (event.Cancel id)) }
+    {
+        match numbered(self.transfers.as_slice(), id) {
+            Some(transfer) if transfer.is_posted() => None,
+            _ => Some(Refusal::State),
+        }
     }
 
     fn refuse_send(&self, dev: u32, len: u32) -> Option<Refusal>
@@ -317,13 +471,23 @@ impl Machine {
             Event::Write { pid, addr, bytes } => self.refuse_write(*pid, *addr, bytes.as_slice()),
             Event::Output {
                 pid,
+                sem,
                 dev,
                 addr,
                 len,
                 ..
-            } => self.refuse_copy_out(*pid, *dev, *addr, *len),
+            } => self.refuse_output(*pid, *sem, *dev, *addr, *len),
+            Event::Input {
+                pid,
+                sem,
+                dev,
+                addr,
+                len,
+                ..
+            } => self.refuse_input(*pid, *sem, *dev, *addr, *len),
             Event::Send { dev, len } => self.refuse_send(*dev, *len),
             Event::Finish { id } => self.refuse_finish(*id),
+            Event::Cancel { id } => self.refuse_cancel(*id),
             Event::Pageout { .. } => None,
             _ => unreachable!(),
         }

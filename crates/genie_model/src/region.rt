@@ -5,7 +5,8 @@ ghost use Rattle.genie_base.specs.Regions.{is_reached, is_apart, is_accessible};
 ghost use Rattle.genie_base.specs.declared.region.RegionState.TheVariants.{Live};
 ghost use Rattle.genie_model.specs.Changes.{change_of};
 ghost use Rattle.genie_model.specs.Regions.{extent_of, changed, is_region};
-ghost use Rattle.genie_model.specs.Refusing.{accessible_pages, is_live};
+ghost use Rattle.genie_model.specs.Inputs.{has_pages};
+ghost use Rattle.genie_model.specs.Refusing.{accessible_pages, is_live, is_sys};
 ghost use Rattle.genie_model.specs.Space.{starts_at};
 
 use crate::change::Change;
@@ -135,6 +136,15 @@ impl Region {
         }
     }
 
+    pub(crate) fn is_sys(&self) -> bool
+        ensures { result ≡ is_sys self.now.area }
+    {
+        match self.area {
+            Area::Sys => true,
+            Area::App => false,
+        }
+    }
+
     pub(crate) fn is_live(&self) -> bool
         ensures { result ≡ is_live self.now.state }
     {
@@ -219,6 +229,13 @@ impl Region {
         ensures { result ≡ is_region number self.now }
     {
         self.number == number
+    }
+
+    // Whether it has this number, and exactly so many pages.
+    pub(crate) fn has_pages(&self, number: u32, pages: u32) -> bool
+        ensures { result ≡ has_pages number pages self.now }
+    {
+        self.number == number && self.pages == pages
     }
 
     fn set(&mut self, change: &Change)

@@ -59,7 +59,7 @@ impl Machine {
     }
 
     // Gives a process a region.
-    fn add_region(&mut self, pid: u32, region: Region) -> Result<(), NoMemory>
+    pub(crate) fn add_region(&mut self, pid: u32, region: Region) -> Result<(), NoMemory>
         requires { length (regions_at self.old pid) < 32 }
         ensures { OnOk result (self.new ≡ add_region self.old pid region) }
     {

@@ -82,12 +82,12 @@ impl Machine {
             }
             Event::Output {
                 pid,
+                sem,
                 dev,
                 port,
                 flow,
                 addr,
                 len,
-                ..
             } => {
                 let target = Target {
                     device: *dev,
@@ -95,13 +95,37 @@ impl Machine {
                     flow: *flow,
                 };
                 let id = self.next as u32;
-                match self.copy_out(*pid, target, *addr, *len) {
+                match self.output(*pid, sem.class(), target, *addr, *len) {
+                    Ok(()) => Ok(Reply::Id { id }),
+                    Err(error) => Err(error),
+                }
+            }
+            Event::Input {
+                pid,
+                sem,
+                dev,
+                port,
+                flow,
+                addr,
+                len,
+            } => {
+                let target = Target {
+                    device: *dev,
+                    port: *port,
+                    flow: *flow,
+                };
+                let id = self.next as u32;
+                match self.input(*pid, sem.class(), target, *addr, *len) {
                     Ok(()) => Ok(Reply::Id { id }),
                     Err(error) => Err(error),
                 }
             }
             Event::Send { dev, len } => self.send(*dev, *len),
             Event::Finish { id } => Ok(self.finish(*id)),
+            Event::Cancel { id } => match self.cancel(*id) {
+                Ok(()) => Ok(Reply::Okay),
+                Err(error) => Err(error),
+            },
             Event::Pageout { .. } => Ok(Reply::Okay),
             _ => unreachable!(),
         }

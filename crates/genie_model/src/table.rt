@@ -5,6 +5,8 @@ ghost use Rattle.std.specs.Option.{option_copied};
 ghost use Rattle.genie_model.specs.Changes.{change_of};
 ghost use Rattle.genie_model.specs.Regions.{has_number, regions_of, region_pages, changed_in, change_process};
 ghost use Rattle.genie_model.specs.Space.{with_region, without_region};
+ghost use Rattle.genie_model.specs.Outputs.{moved_out_of};
+ghost use Rattle.genie_model.specs.Inputs.{moved_in_of};
 ghost use Rattle.genie_model.specs.Sending.{change_device, with_sent};
 ghost use Rattle.genie_model.specs.Tables.{entry};
 
@@ -134,6 +136,59 @@ pub(crate) fn remove_region(processes: &mut Vec<Option<Process>>, number: u32)
     ensures places { length processes.new.items ≡ length processes.old.items }
 {
     remove_from_each(processes.as_mut_slice(), number);
+}
+
+fn move_out_in(process: &mut Option<Process>, number: u32) -> Result<(), NoMemory>
+    ensures { OnOk result (process.new ≡ change_process (moved_out_of number) process.old) }
+{
+    match process {
+        Some(process) => process.move_out(number),
+        None => Ok(()),
+    }
+}
+
+fn move_out_in_each(processes: &mut [Option<Process>], number: u32) -> Result<(), NoMemory>
+    ensures { OnOk result (processes.new ≡ map (change_process (moved_out_of number)) processes.old) }
+{
+    for process in processes.iter_mut() {
+        match move_out_in(process, number) {
+            Ok(()) => {}
+            Err(error) => return Err(error),
+        }
+    }
+    Ok(())
+}
+
+// Region `number` is Out, at the end of the weak queue of the process that has it.
+pub(crate) fn move_out(processes: &mut Vec<Option<Process>>, number: u32) -> Result<(), NoMemory>
+    ensures moved { OnOk result (processes.new.items ≡ map (change_process (moved_out_of number)) processes.old.items) }
+    ensures places { length processes.new.items ≡ length processes.old.items }
+{
+    move_out_in_each(processes.as_mut_slice(), number)
+}
+
+fn move_in_in(process: &mut Option<Process>, number: u32)
+    ensures { process.new ≡ change_process (moved_in_of number) process.old }
+{
+    if let Some(process) = process {
+        process.move_in(number);
+    }
+}
+
+fn move_in_in_each(processes: &mut [Option<Process>], number: u32)
+    ensures { processes.new ≡ map (change_process (moved_in_of number)) processes.old }
+{
+    for process in processes.iter_mut() {
+        move_in_in(process, number);
+    }
+}
+
+// Region `number` leaves the weak queue, and is In.
+pub(crate) fn move_in(processes: &mut Vec<Option<Process>>, number: u32)
+    ensures moved { processes.new.items ≡ map (change_process (moved_in_of number)) processes.old.items }
+    ensures places { length processes.new.items ≡ length processes.old.items }
+{
+    move_in_in_each(processes.as_mut_slice(), number);
 }
 
 fn add_to(process: &mut Option<Process>, region: Region) -> Result<(), NoMemory>

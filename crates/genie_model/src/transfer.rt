@@ -1,14 +1,14 @@
 //! A pending transfer.
-ghost use Rattle.std.specs.Prelude.{◌≡◌, ◌==◌, ℕ, ◌+◌, ◌-◌, ◌*◌, ◌<◌, ◌≤◌, ◌^◌, Some, None, length, map, filter, not, find, sum_by, IfOk, OnOk};
+ghost use Rattle.std.specs.Prelude.{◌≡◌, ◌==◌, ℕ, ◌+◌, ◌-◌, ◌*◌, ◌<◌, ◌≤◌, ◌^◌, [], Some, None, length, map, filter, not, find, sum_by, IfOk, OnOk};
 ghost use Rattle.std.specs.List.{list_any};
 ghost use Rattle.std.specs.Option.{option_copied};
 ghost use Rattle.genie_base.specs.Records.{header_bytes, header_len};
 ghost use Rattle.genie_base.specs.Transfers.{is_strong};
 ghost use Rattle.genie_base.specs.declared.reply.Note.TheVariants.{Whole};
-ghost use Rattle.genie_base.specs.declared.semantics.Class.TheVariants.{Copy};
-ghost use Rattle.genie_base.specs.declared.semantics.Direction.TheVariants.{Outward};
+ghost use Rattle.genie_base.specs.Counts.{cost};
+ghost use Rattle.genie_base.specs.declared.semantics.Direction.TheVariants.{Outward, Inward};
 ghost use Rattle.genie_model.specs.State.{Transfer as Pending};
-ghost use Rattle.genie_model.specs.declared.phase.Phase.TheVariants.{Queued};
+ghost use Rattle.genie_model.specs.declared.phase.Phase.TheVariants.{Queued, Posted};
 ghost use Rattle.genie_model.specs.Pending.{is_ready, is_queued, is_posted, is_just, is_inward, is_numbered, waits_for, touched, cost_of, names, names_weakly, covers};
 ghost use Rattle.genie_model.specs.Inputs.{address_or_zero};
 ghost use Rattle.genie_model.specs.Space.{disowned, is_posted_by};
@@ -80,28 +80,42 @@ pub(crate) struct Target {
     pub(crate) flow: Option<u32>,
 }
 
+/// A call that is accepted: its number, whose it is, its class, where its bytes go to or come from, and how many.
+#[derive(Clone, Copy)]
+pub(crate) struct Call {
+    pub(crate) number: u32,
+    pub(crate) owner: u32,
+    pub(crate) class: Class,
+    pub(crate) target: Target,
+    pub(crate) len: u32,
+}
+
+// How many frames a transfer that touches so many pages may need.
+pub(crate) fn cost_of_span(class: Class, direction: Direction, touched: u32) -> u64
+    ensures cost { result ≡ cost class direction touched }
+    ensures most { result < 2 ^ 33 }
+{
+    match (class, direction) {
+        (Class::Copy, Direction::Inward) => 2 * u64::from(touched),
+        _ => u64::from(touched),
+    }
+}
+
 impl Transfer {
-    // A copy output of which nothing is sent.
-    pub(crate) fn copy_out(
-        number: u32,
-        owner: u32,
-        target: Target,
-        offset: u32,
-        len: u32,
-        payload: Vec<u8>,
-    ) -> Transfer
+    // An output of which nothing is sent.
+    pub(crate) fn output(call: Call, region: Option<u32>, offset: u32, payload: Vec<u8>) -> Transfer
         ensures { result ≡ record {
-          number = number;
-          owner = Some owner;
+          number = call.number;
+          owner = Some call.owner;
           direction = Outward;
-          class = Copy;
-          device = target.device;
-          port = target.port;
-          flow = target.flow;
+          class = call.class;
+          device = call.target.device;
+          port = call.target.port;
+          flow = call.target.flow;
           addr = None;
-          region = None;
+          region = region;
           offset = offset;
-          len = len;
+          len = call.len;
           phase = Queued;
           payload = payload.items;
           staged = 0;
@@ -111,19 +125,68 @@ impl Transfer {
         } }
     {
         Transfer {
-            number,
-            owner: Some(owner),
+            number: call.number,
+            owner: Some(call.owner),
             direction: Direction::Outward,
-            class: Class::Copy,
-            device: target.device,
-            port: target.port,
-            flow: target.flow,
+            class: call.class,
+            device: call.target.device,
+            port: call.target.port,
+            flow: call.target.flow,
             addr: None,
-            region: None,
+            region,
             offset,
-            len,
+            len: call.len,
             phase: Phase::Queued,
             payload,
+            staged: 0,
+            moved: 0,
+            stored: 0,
+            note: Note::Whole,
+        }
+    }
+
+    // An input that no record has met.
+    pub(crate) fn input(
+        alloc: Global,
+        call: Call,
+        addr: Option<u32>,
+        region: Option<u32>,
+        offset: u32,
+    ) -> Transfer
+        ensures { result ≡ record {
+          number = call.number;
+          owner = Some call.owner;
+          direction = Inward;
+          class = call.class;
+          device = call.target.device;
+          port = call.target.port;
+          flow = call.target.flow;
+          addr = addr;
+          region = region;
+          offset = offset;
+          len = call.len;
+          phase = Posted;
+          payload = [];
+          staged = 0;
+          moved = 0;
+          stored = 0;
+          note = Whole;
+        } }
+    {
+        Transfer {
+            number: call.number,
+            owner: Some(call.owner),
+            direction: Direction::Inward,
+            class: call.class,
+            device: call.target.device,
+            port: call.target.port,
+            flow: call.target.flow,
+            addr,
+            region,
+            offset,
+            len: call.len,
+            phase: Phase::Posted,
+            payload: Vec::new(alloc),
             staged: 0,
             moved: 0,
             stored: 0,
@@ -243,7 +306,7 @@ impl Transfer {
         }
     }
 
-    fn is_posted(&self) -> bool
+    pub(crate) fn is_posted(&self) -> bool
         ensures { result ≡ is_posted self.now.phase }
     {
         match self.phase {
@@ -339,11 +402,7 @@ impl Transfer {
         ensures cost { result ≡ cost_of page self.now }
         ensures most { result < 2 ^ 33 }
     {
-        let touched = u64::from(self.touched(page));
-        match (self.class, self.direction) {
-            (Class::Copy, Direction::Inward) => 2 * touched,
-            _ => touched,
-        }
+        cost_of_span(self.class, self.direction, self.touched(page))
     }
 
     fn header_len(&self) -> u64
@@ -398,6 +457,13 @@ impl Transfer {
         self.staged += k;
         Ok(())
     }
+}
+
+// Whether one of them names this region or orphan.
+pub(crate) fn any_names(transfers: &[Transfer], number: u32) -> bool
+    ensures { result ≡ list_any (names number) transfers.now }
+{
+    transfers.iter().any(|transfer| transfer.names(number))
 }
 
 // Whether a weak one names this region or orphan.
