@@ -1,7 +1,9 @@
-pub mod Words
-pub mod Numbers
 pub mod Hex
-pub mod Names
-pub mod Lines
-pub mod Spelling
+pub mod Judge
 pub mod Laws
+pub mod Lines
+pub mod Names
+pub mod Numbers
+pub mod Spelling
+pub mod Texts
+pub mod Words
