@@ -1,7 +1,9 @@
-pub mod Cuts
-pub mod FullLines
+pub mod Boots
+pub mod Exits
+pub mod Filing
 pub mod Opening
-pub mod Playing
 pub mod Reading
+pub mod Remaining
+pub mod Running
 pub mod Stepping
 pub mod Writing

@@ -4,7 +4,8 @@ use Rattle.std.specs.Prelude.{Option, Some, None, Ok}
 use Rattle.std.proofs.lemmas.Grind.{common_steps}
 use Rattle.std.specs.Io.KnownBytes.{Keeps, Consumes, IsAtEnd}
 use Rattle.genie_host.specs.Host.{HostView, OnlyHandle}
-use Rattle.genie_replay.specs.Lines.{lines_of, TakesLine}
+use Rattle.genie_script.specs.Texts.{lines_of}
+use Rattle.genie_replay.specs.Lines.{TakesLine}
 use Rattle.genie_replay.specs.declared.script.LineStep.TheVariants.{Line, End, TooLong}
 use Rattle.genie_host.specs.OnlyHandle.{only_trans}
 
@@ -69,7 +70,7 @@ pub line_end : (E : Type 0) (u v w : Option (List ℕ)) (line : List ℕ) → Co
 line_end E None v w line a e z = tt
 line_end E (Some u) None w line a e z = absurd a
 line_end E (Some u) (Some v) None line a e z = absurd e.1
-line_end E (Some u) (Some v) (Some w) [] a e z = a ∙ e.0
+line_end E (Some u) (Some v) (Some w) [] a e z = ap lines_of (a ∙ e.0)
 line_end E (Some u) (Some v) (Some w) (x ∷ xs) a e z = absurd (omega arith)
 
 pub line_last : (E : Type 0) (u v w : Option (List ℕ)) (line : List ℕ) → Consumes u v line → IsPlain line → length line ≤ 8300 → IsAtEnd v × Keeps v w → length line ≢ 0 → TakesLine {E = E} u w (Ok Line) line

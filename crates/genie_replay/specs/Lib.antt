@@ -1,6 +1,7 @@
-pub mod Bounds
-pub mod Finding
-pub mod Judge
+pub mod Booted
+pub mod Booting
+pub mod Built
+pub mod Files
 pub mod Lines
 pub mod Outcome
 pub mod Plays

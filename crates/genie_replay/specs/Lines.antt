@@ -1,18 +1,9 @@
--- Lines of a text, and what reading one of them takes.
-use Rattle.std.specs.Prelude.{◌≡◌, ℕ, ◌+◌, ◌<◌, ◌≤◌, ◌==◌, List, [], ◌∷◌, length, Option, None, Some, Result, Ok, Err, if◌then◌else◌, ⊤}
+-- What reading one line of a text takes.
+use Rattle.std.specs.Prelude.{◌≡◌, ℕ, ◌+◌, ◌<◌, ◌≤◌, List, [], ◌∷◌, length, Option, None, Some, Result, Ok, Err, ⊤}
 use Rattle.std.specs.Io.KnownBytes.{Consumes, IsAtEnd, Keeps}
+use Rattle.genie_script.specs.Texts.{lines_of}
 use Rattle.genie_replay.specs.declared.script.LineStep.{LineStep}
 use Rattle.genie_replay.specs.declared.script.LineStep.TheVariants.{Line, End, TooLong}
-
--- a byte in front of the first line
-abbrev pub onto_first : ℕ → List (List ℕ) → List (List ℕ)
-onto_first b [] = (b ∷ []) ∷ []
-onto_first b (line ∷ lines) = (b ∷ line) ∷ lines
-
--- the pieces between line ends, without an empty last one
-abbrev pub lines_of : List ℕ → List (List ℕ)
-lines_of [] = []
-lines_of (b ∷ bytes) = if b == 10 then [] ∷ lines_of bytes else onto_first b (lines_of bytes)
 
 -- the bytes read ahead were taken from the front, and are none only at the end
 abbrev pub ReadsAhead : {E : Type 0} → Option (List ℕ) → Option (List ℕ) → List ℕ → Result ℕ E → Type 0
@@ -31,14 +22,16 @@ StaysWithin most old new (Ok (Some b)) = old ≤ most → new + 1 ≤ most
 StaysWithin most old new (Ok None) = old ≤ most → new ≤ most
 StaysWithin most old new (Err e) = old ≤ most → new ≤ most
 
--- what one line of a text is: the first one and the text after it, none, or one that is too long
-abbrev pub IsFirstLine : List ℕ → List ℕ → LineStep → List ℕ → Type 0
-IsFirstLine text rest Line line = (lines_of text ≡ line ∷ lines_of rest) × (length line ≤ 8300)
-IsFirstLine text rest End line = text ≡ []
-IsFirstLine text rest TooLong line = (long : List ℕ) × (more : List (List ℕ)) × (lines_of text ≡ long ∷ more) × (8300 < length long)
+-- the lines that are left, of which the first one was read: it is this one, and those of the rest follow; there is none;
+-- or it is too long
+abbrev pub IsPending : List (List ℕ) → LineStep → List ℕ → List ℕ → Type 0
+IsPending lines Line line rest = (lines ≡ line ∷ lines_of rest) × (length line ≤ 8300)
+IsPending lines End line rest = lines ≡ []
+IsPending lines TooLong line rest = (long : List ℕ) × (more : List (List ℕ)) × (lines ≡ long ∷ more) × (8300 < length long)
 
+-- where the text is told, the first of its lines was read
 abbrev pub TakesLine : {E : Type 0} → Option (List ℕ) → Option (List ℕ) → Result LineStep E → List ℕ → Type 0
 TakesLine None new result line = ⊤
 TakesLine (Some text) None result line = ⊥
-TakesLine (Some text) (Some rest) (Ok step) line = IsFirstLine text rest step line
+TakesLine (Some text) (Some rest) (Ok step) line = IsPending (lines_of text) step line rest
 TakesLine (Some text) (Some rest) (Err e) line = ⊤

@@ -1,21 +1,25 @@
--- What each status says of the script, of the replies and of the device's output file.
-use Rattle.std.specs.Prelude.{◌≡◌, ◌⊎◌, ℕ, Bool, false, List, [], ◌∷◌, ◌++◌, codes, flat_map, Option, None, Some, ⊤, if◌then◌else◌, ◌&&◌, bytes_eq, nat_lt, length, not, ◌==◌}
+-- What each status says of the script, of the replies and of the devices' outputs.
+use Rattle.std.specs.Prelude.{◌≡◌, ◌⊎◌, ℕ, Bool, false, IsTrue, List, [], ◌∷◌, ◌++◌, codes, flat_map, map, All, Option, None, Some, ⊤, if◌then◌else◌, ◌&&◌, bytes_eq, nat_lt, length, not, ◌==◌}
 use Rattle.std.specs.Io.KnownBytes.{Appends, Keeps}
 use Rattle.genie_base.specs.Causes.{Rose}
 use Rattle.genie_base.specs.Configs.{Config}
 use Rattle.genie_base.specs.declared.event.Event.{Event}
 use Rattle.genie_base.specs.declared.reply.Reply.{Reply}
 use Rattle.genie_base.specs.declared.semantics.Direction.{Direction}
-use Rattle.genie_base.specs.declared.semantics.Direction.TheVariants.{Inward, Outward}
+use Rattle.genie_base.specs.declared.semantics.Direction.TheVariants.{Inward}
 use Rattle.genie_host.specs.Host.{HostView, empty_told}
 use Rattle.genie_model.specs.Flat.{sent_of}
 use Rattle.genie_model.specs.State.{State, boot}
 use Rattle.genie_model.specs.Step.{Follows}
+use Rattle.genie_script.specs.Judge.{Boot, Refused, Booted, Numbered, boot_part, events_from, ending_from}
 use Rattle.genie_script.specs.Spelling.{reply_text}
+use Rattle.genie_script.specs.Texts.{lines_of}
+use Rattle.genie_script.specs.declared.line.DeviceLine.{DeviceLine}
 use Rattle.genie_replay.specs.declared.status.Status.{Status}
-use Rattle.genie_replay.specs.declared.status.Status.TheVariants.{Done, Usage, BadLine, HostFault, NoMemory, TooLong, BadBoot, NotBuilt}
-use Rattle.genie_replay.specs.Judge.{Boot, Refused, Booted, End, Unbuilt, boot_part, events_from, ending_from}
-use Rattle.genie_replay.specs.Lines.{lines_of}
+use Rattle.genie_replay.specs.declared.status.Status.TheVariants.{HostFault, NoMemory, NotBuilt}
+use Rattle.genie_replay.specs.Built.{is_built}
+use Rattle.genie_replay.specs.Files.{HandleRose, HoldsOfOutputs, openings_of}
+use Rattle.genie_replay.specs.Statuses.{status_of}
 use Rattle.genie_replay.specs.Write.{AppendsFront}
 
 -- a script's name has 1 to 4,096 bytes, and doesn't begin with `-`
@@ -35,67 +39,89 @@ texts replies = flat_map reply_text replies
 abbrev pub okay : List ℕ
 okay = codes "ok" ++ 10 ∷ []
 
--- the openings of a run that came to its events
-abbrev pub openings : List ℕ → List ℕ → List (List ℕ × Direction)
-openings script file = (script, Inward) ∷ (file, Outward) ∷ []
+abbrev pub events_of : List Numbered → List Event
+events_of events = map (λ (n : Numbered). n.1) events
 
--- All of these events were stepped: the replies to them were written after the one to the boot part, and the output
--- file, handle 2, has what the device sent.
-pub record Ran (script file : List ℕ) (start : State) (events : List Event) (old new : HostView) : Type 0 where
+abbrev pub AreBuilt : Config → List Numbered → Type 0
+AreBuilt c events = All (λ (n : Numbered). IsTrue (is_built c n.1)) events
+
+-- the openings of a run that came to its events: the script, and then the devices' files in the order of their lines
+abbrev pub openings : List ℕ → List DeviceLine → List (List ℕ × Direction)
+openings script devices = (script, Inward) ∷ flat_map openings_of devices
+
+-- an output has what its device sent, or a front of it; nothing was in it before
+abbrev pub HasAll : State → HostView → HostView → ℕ → ℕ → Type 0
+HasAll s old new number handle = Appends (empty_told (old.handle 0).bytes) (new.handle handle).bytes (sent_of s number)
+
+abbrev pub HasFront : State → HostView → HostView → ℕ → ℕ → Type 0
+HasFront s old new number handle = AppendsFront (empty_told (old.handle 0).bytes) (new.handle handle).bytes (sent_of s number)
+
+abbrev pub start_of : Config → State
+start_of c = boot c (λ _. [])
+
+-- All of these events were stepped: the replies to them were written after the one to the boot part, and each output has
+-- what its device sent.
+pub record Ran (script : List ℕ) (c : Config) (devices : List DeviceLine) (events : List Numbered) (old new : HostView) : Type 0 where
   pub replies : List Reply
   pub last : State
-  pub follows : Follows start events replies last
+  pub follows : Follows (start_of c) (events_of events) replies last
+  pub built : AreBuilt c events
   pub written : Appends (old.handle 0).bytes (new.handle 0).bytes (okay ++ texts replies)
-  pub sent : Appends (empty_told (old.handle 0).bytes) (new.handle 2).bytes (sent_of last 0)
-  pub tried : new.tried ≡ old.tried ++ openings script file
+  pub sent : HoldsOfOutputs (HasAll last old new) 1 devices
+  pub tried : new.tried ≡ old.tried ++ openings script devices
 
--- The first ones of them were stepped, and fronts of the replies and of what was sent were written.
-pub record RanInPart (start : State) (events : List Event) (old new : HostView) : Type 0 where
-  pub done : List Event
-  pub left : List Event
+-- The first ones of them were stepped, a front of the replies was written, and fronts of what was sent.
+pub record RanInPart (script : List ℕ) (c : Config) (devices : List DeviceLine) (events : List Numbered) (old new : HostView) : Type 0 where
+  pub done : List Numbered
+  pub left : List Numbered
   pub split : events ≡ done ++ left
   pub replies : List Reply
   pub last : State
-  pub follows : Follows start done replies last
+  pub follows : Follows (start_of c) (events_of done) replies last
   pub written : AppendsFront (old.handle 0).bytes (new.handle 0).bytes (okay ++ texts replies)
-  pub sent : AppendsFront (empty_told (old.handle 0).bytes) (new.handle 2).bytes (sent_of last 0)
+  pub sent : HoldsOfOutputs (HasFront last old new) 1 devices
+  pub tried : new.tried ≡ old.tried ++ openings script devices
+
+-- The events before the first one that isn't built were stepped; it stands in line l.
+pub record RanToUnbuilt (script : List ℕ) (c : Config) (devices : List DeviceLine) (events : List Numbered) (l : ℕ) (old new : HostView) : Type 0 where
+  pub done : List Numbered
+  pub next : Numbered
+  pub left : List Numbered
+  pub split : events ≡ done ++ next ∷ left
+  pub line : next.0 ≡ l
+  pub unbuilt : is_built c next.1 ≡ false
+  pub ran : Ran script c devices done old new
 
 -- no reply was written
 abbrev pub WroteNothing : HostView → HostView → Type 0
 WroteNothing old new = Keeps (old.handle 0).bytes (new.handle 0).bytes
 
-abbrev pub start_of : Config → State
-start_of c = boot c (λ _. [])
+-- The boot part ends the script: no reply was written, and nothing but the script was opened.
+pub record RanNothing (script : List ℕ) (old new : HostView) : Type 0 where
+  pub written : WroteNothing old new
+  pub tried : new.tried ≡ old.tried ++ (script, Inward) ∷ []
 
 abbrev pub IsOutcome : List ℕ → Boot → HostView → HostView → Status → Type 0
--- where the boot part is refused nothing is written
-IsOutcome script (Refused number) old new (NotBuilt l) = (l ≡ number) × WroteNothing old new
-IsOutcome script (Refused number) old new HostFault = WroteNothing old new
-IsOutcome script (Refused number) old new NoMemory = WroteNothing old new
-IsOutcome script (Refused number) old new Done = ⊥
-IsOutcome script (Refused number) old new Usage = ⊥
-IsOutcome script (Refused number) old new (BadLine l) = ⊥
-IsOutcome script (Refused number) old new TooLong = ⊥
-IsOutcome script (Refused number) old new (BadBoot l) = ⊥
--- with `Done` all events of the script were stepped, with `NotBuilt` all before this line
-IsOutcome script (Booted c file before lines) old new Done = (ending_from c.slots 0 before lines ≡ End) × Ran script file (start_of c) (events_from c.slots 0 before lines) old new
-IsOutcome script (Booted c file before lines) old new (NotBuilt l) = (ending_from c.slots 0 before lines ≡ Unbuilt l) × Ran script file (start_of c) (events_from c.slots 0 before lines) old new
--- a run that was cut short
-IsOutcome script (Booted c file before lines) old new HostFault = WroteNothing old new ⊎ RanInPart (start_of c) (events_from c.slots 0 before lines) old new
-IsOutcome script (Booted c file before lines) old new NoMemory = WroteNothing old new ⊎ RanInPart (start_of c) (events_from c.slots 0 before lines) old new
-IsOutcome script (Booted c file before lines) old new Usage = ⊥
-IsOutcome script (Booted c file before lines) old new (BadLine l) = ⊥
-IsOutcome script (Booted c file before lines) old new TooLong = ⊥
-IsOutcome script (Booted c file before lines) old new (BadBoot l) = ⊥
+-- a run that a failure cut short
+IsOutcome script (Refused ending) old new HostFault = WroteNothing old new
+IsOutcome script (Refused ending) old new NoMemory = WroteNothing old new
+IsOutcome script (Booted part before lines) old new HostFault = WroteNothing old new ⊎ RanInPart script part.config part.devices (events_from before lines) old new
+IsOutcome script (Booted part before lines) old new NoMemory = WroteNothing old new ⊎ RanInPart script part.config part.devices (events_from before lines) old new
+-- a run that an event cut short which isn't built
+IsOutcome script (Refused ending) old new (NotBuilt l) = ⊥
+IsOutcome script (Booted part before lines) old new (NotBuilt l) = RanToUnbuilt script part.config part.devices (events_from before lines) l old new
+-- every other run ends as the script does
+IsOutcome script (Refused ending) old new status = (status ≡ status_of ending) × RanNothing script old new
+IsOutcome script (Booted part before lines) old new status = (status ≡ status_of (ending_from before lines)) × Ran script part.config part.devices (events_from before lines) old new
 
 -- where the host tells the script's bytes
 abbrev pub OutcomeOf : List ℕ → Option (List ℕ) → HostView → HostView → Status → Type 0
 OutcomeOf script None old new status = ⊤
-OutcomeOf script (Some text) old new status = IsOutcome script (boot_part script (lines_of text)) old new status
+OutcomeOf script (Some text) old new status = IsOutcome script (boot_part script 0 (lines_of text)) old new status
 
--- the count of the replies, of the script, of the output file or of the openings rose
+-- the count of a handle or of the openings rose
 abbrev pub HasHostCause : HostView → HostView → Type 0
-HasHostCause old new = Rose (old.handle 0).faults (new.handle 0).faults ⊎ (Rose (old.handle 1).faults (new.handle 1).faults ⊎ (Rose (old.handle 2).faults (new.handle 2).faults ⊎ Rose old.refusals new.refusals))
+HasHostCause old new = HandleRose old new ⊎ Rose old.refusals new.refusals
 
 abbrev pub FaultOf : HostView → HostView → Status → Type 0
 FaultOf old new status = status ≡ HostFault → HasHostCause old new

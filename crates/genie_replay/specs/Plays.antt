@@ -1,59 +1,84 @@
 -- What the run of the lines behind the boot part does.
-use Rattle.std.specs.Prelude.{◌≡◌, ℕ, List, [], ◌++◌, Option, None, Some, ⊤}
+use Rattle.std.specs.Prelude.{◌≡◌, ◌≢◌, ◌≤◌, ℕ, IsSome, IfSome, false, List, ◌∷◌, ◌++◌, Option, None, Some, ⊤}
 use Rattle.std.specs.Io.KnownBytes.{Appends}
-use Rattle.genie_base.specs.declared.event.Event.{Event}
+use Rattle.genie_base.specs.Configs.{Config}
 use Rattle.genie_base.specs.declared.reply.Reply.{Reply}
 use Rattle.genie_host.specs.Host.{HostView}
-use Rattle.genie_model.specs.Flat.{sent_of}
 use Rattle.genie_model.specs.State.{State}
 use Rattle.genie_model.specs.Step.{Follows}
+use Rattle.genie_script.specs.Judge.{Numbered, events_from, ending_from}
+use Rattle.genie_replay.specs.declared.script.LineStep.{LineStep}
 use Rattle.genie_replay.specs.declared.status.Status.{Status}
-use Rattle.genie_replay.specs.declared.status.Status.TheVariants.{Done, Usage, BadLine, HostFault, NoMemory, TooLong, BadBoot, NotBuilt}
-use Rattle.genie_replay.specs.Judge.{End, Unbuilt, events_from, ending_from}
-use Rattle.genie_replay.specs.Lines.{lines_of}
-use Rattle.genie_replay.specs.Outcome.{texts}
+use Rattle.genie_replay.specs.declared.status.Status.TheVariants.{HostFault, NoMemory, NotBuilt}
+use Rattle.genie_replay.specs.Built.{is_built}
+use Rattle.genie_replay.specs.Files.{HandleRose, SameFaults}
+use Rattle.genie_replay.specs.Lines.{IsPending}
+use Rattle.genie_replay.specs.Outcome.{AreBuilt, events_of, texts}
+use Rattle.genie_replay.specs.Statuses.{status_of}
 use Rattle.genie_replay.specs.Write.{AppendsFront}
 
--- all of these events were stepped, and their replies and what the device sent were written
-pub record Played (start : State) (events : List Event) (old new : HostView) : Type 0 where
-  pub replies : List Reply
-  pub last : State
-  pub follows : Follows start events replies last
-  pub written : Appends (old.handle 0).bytes (new.handle 0).bytes (texts replies)
-  pub sent : Appends (old.handle 2).bytes (new.handle 2).bytes (sent_of last 0)
+-- nothing but the replies and the script, handles 0 and 1, changed
+pub record OnlyRun (old new : HostView) : Type 0 where
+  pub others : (k : ℕ) → k ≢ 0 → k ≢ 1 → new.handle k ≡ old.handle k
   pub tried : new.tried ≡ old.tried
 
--- the first ones of them, and fronts of these
-pub record PlayedInPart (start : State) (events : List Event) (old new : HostView) : Type 0 where
-  pub done : List Event
-  pub left : List Event
+-- the counts of faults didn't fall
+abbrev pub LaterFaults : HostView → HostView → Type 0
+LaterFaults old new = (k : ℕ) → (old.handle k).faults ≤ (new.handle k).faults
+
+-- what a run leaves as it was, and which counts rose
+pub record Leaves (status : Status) (old new : HostView) : Type 0 where
+  pub only : OnlyRun old new
+  pub later : LaterFaults old new
+  pub refusals : new.refusals ≡ old.refusals
+  pub same : status ≢ HostFault → SameFaults old new
+  pub cause : status ≡ HostFault → HandleRose old new
+
+-- all of these events were stepped, and their replies were written
+pub record Played (c : Config) (start : State) (events : List Numbered) (machine : Option State) (old new : HostView) : Type 0 where
+  pub replies : List Reply
+  pub last : State
+  pub follows : Follows start (events_of events) replies last
+  pub built : AreBuilt c events
+  pub machine_is : machine ≡ Some last
+  pub written : Appends (old.handle 0).bytes (new.handle 0).bytes (texts replies)
+
+-- the first ones of them were, and a front of their replies was written
+pub record PlayedInPart (start : State) (events : List Numbered) (machine : Option State) (old new : HostView) : Type 0 where
+  pub done : List Numbered
+  pub left : List Numbered
   pub split : events ≡ done ++ left
   pub replies : List Reply
   pub last : State
-  pub follows : Follows start done replies last
+  pub follows : Follows start (events_of done) replies last
+  pub machine_is : IfSome machine (λ s. s ≡ last)
   pub written : AppendsFront (old.handle 0).bytes (new.handle 0).bytes (texts replies)
-  pub sent : AppendsFront (old.handle 2).bytes (new.handle 2).bytes (sent_of last 0)
 
-abbrev pub Plays : ℕ → ℕ → List (List ℕ) → State → HostView → HostView → Status → Type 0
-Plays slots before lines start old new Done = (ending_from slots 0 before lines ≡ End) × Played start (events_from slots 0 before lines) old new
-Plays slots before lines start old new (NotBuilt l) = (ending_from slots 0 before lines ≡ Unbuilt l) × Played start (events_from slots 0 before lines) old new
-Plays slots before lines start old new HostFault = PlayedInPart start (events_from slots 0 before lines) old new
-Plays slots before lines start old new NoMemory = PlayedInPart start (events_from slots 0 before lines) old new
-Plays slots before lines start old new Usage = ⊥
-Plays slots before lines start old new (BadLine l) = ⊥
-Plays slots before lines start old new TooLong = ⊥
-Plays slots before lines start old new (BadBoot l) = ⊥
+-- the events before the first one that isn't built were stepped; it stands in line l
+pub record PlayedToUnbuilt (c : Config) (start : State) (events : List Numbered) (l : ℕ) (machine : Option State) (old new : HostView) : Type 0 where
+  pub done : List Numbered
+  pub next : Numbered
+  pub left : List Numbered
+  pub split : events ≡ done ++ next ∷ left
+  pub line : next.0 ≡ l
+  pub unbuilt : is_built c next.1 ≡ false
+  pub played : Played c start done machine old new
 
--- where the host tells what is left of the script
-abbrev pub PlaysOf : Option (List ℕ) → ℕ → ℕ → State → HostView → HostView → Status → Type 0
-PlaysOf None slots before start old new status = ⊤
-PlaysOf (Some text) slots before start old new status = Plays slots before (lines_of text) start old new status
+abbrev pub Plays : Config → ℕ → List (List ℕ) → State → Option State → HostView → HostView → Status → Type 0
+Plays c before lines start machine old new HostFault = IsSome machine × PlayedInPart start (events_from before lines) machine old new
+Plays c before lines start machine old new NoMemory = PlayedInPart start (events_from before lines) machine old new
+Plays c before lines start machine old new (NotBuilt l) = PlayedToUnbuilt c start (events_from before lines) l machine old new
+Plays c before lines start machine old new status = (status ≡ status_of (ending_from before lines)) × Played c start (events_from before lines) machine old new
 
--- from a machine that has just been booted
-pub record IsFresh (start : State) : Type 0 where
-  pub first : start.next ≡ 1
-  pub nothing : sent_of start 0 ≡ []
+-- where the host tells what is left of the script: the line that was read, and the text behind it
+abbrev pub PlaysOf : Option (List ℕ) → Config → LineStep → List ℕ → ℕ → State → Option State → HostView → HostView → Status → Type 0
+PlaysOf None c step line before start machine old new status = ⊤
+PlaysOf (Some text) c step line before start machine old new status = (lines : List (List ℕ)) → IsPending lines step line text → Plays c before lines start machine old new status
 
-abbrev pub PlaysFrom : Option State → Option (List ℕ) → ℕ → ℕ → HostView → HostView → Status → Type 0
-PlaysFrom None text slots before old new status = ⊥
-PlaysFrom (Some start) text slots before old new status = PlaysOf text slots before start old new status
+abbrev pub PlaysFrom : Option State → Option (List ℕ) → Config → LineStep → List ℕ → ℕ → Option State → HostView → HostView → Status → Type 0
+PlaysFrom None text c step line before machine old new status = ⊥
+PlaysFrom (Some start) text c step line before machine old new status = PlaysOf text c step line before start machine old new status
+
+-- a machine that has just been booted
+abbrev pub IsFirst : State → Type 0
+IsFirst start = start.next ≡ 1

@@ -1,5 +1,7 @@
 -- The code and the text of each status.
 use Rattle.std.specs.Prelude.{ℕ, ◌==◌, List, [], ◌++◌, codes, decimal, if◌then◌else◌}
+use Rattle.genie_script.specs.declared.judge.Ending.{Ending}
+use Rattle.genie_script.specs.declared.judge.Ending.TheVariants as ending
 use Rattle.genie_replay.specs.declared.status.Status.{Status}
 use Rattle.genie_replay.specs.declared.status.Status.TheVariants.{Done, Usage, BadLine, HostFault, NoMemory, TooLong, BadBoot, NotBuilt}
 
@@ -26,3 +28,10 @@ status_text NoMemory = codes "no memory"
 status_text TooLong = codes "script too long"
 status_text (BadBoot l) = boot_text l
 status_text (NotBuilt l) = codes "line " ++ decimal l ++ codes " is not built yet"
+
+-- the status of a run that came to the script's end
+abbrev pub status_of : Ending → Status
+status_of ending.End = Done
+status_of (ending.BadLine l) = BadLine l
+status_of ending.TooLong = TooLong
+status_of (ending.BadBoot l) = BadBoot l

@@ -2,8 +2,7 @@
 #![tactic(auto)]
 
 mod booting;
-mod finding;
-mod judge;
+mod files;
 mod play;
 pub mod replay;
 pub mod script;

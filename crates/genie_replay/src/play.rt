@@ -1,59 +1,61 @@
 //! The run of the lines behind the boot part.
 ghost use Rattle.std.specs.Prelude.{◌≡◌, ◌≢◌, ◌≤◌, IfSome, IsSome};
 ghost use Rattle.std.specs.Io.KnownBytes.{prepend_known};
-ghost use Rattle.genie_host.specs.Host.{Reading, Writing};
-ghost use Rattle.genie_replay.specs.Outcome.{FaultOf};
-ghost use Rattle.genie_replay.specs.Plays.{IsFresh, PlaysFrom};
+ghost use Rattle.genie_base.specs.Configs.{config_of};
+ghost use Rattle.genie_host.specs.Host.{Reading};
+ghost use Rattle.genie_replay.specs.Plays.{IsFirst, Leaves, PlaysFrom};
 
-use crate::finding::{MOST_LINES, next_full_line};
-use crate::judge::{SCRIPT, event_line};
-use crate::script::{LineStep, Script};
-use crate::serving::{Stop, serve};
+use crate::script::{LineStep, SCRIPT, Script};
+use crate::serving::{Stop, take_line};
 use crate::status::Status;
+use genie_base::Config;
 use genie_host::Host;
 use genie_model::Flat;
-use genie_script::LineBuffer;
+use genie_script::{LineBuffer, MOST_LINES};
 
-/// Steps the events of the lines that are left, and writes each reply before it judges the next line.
+/// Steps the events of the lines that are left, and writes each reply before it reads the next line. The first of these
+/// lines was read, and so many stand before it.
 pub(crate) fn play<H: Host>(
     host: &mut H,
     script: &mut Script,
     line: &mut LineBuffer,
     flat: &mut Flat,
-    slots: u32,
+    config: &Config,
+    step: LineStep,
     before: u64,
 ) -> Status
     requires input { ((H.view host.old).handle 1).mode ≡ Reading }
-    requires output { ((H.view host.old).handle 2).mode ≡ Writing }
     requires few { before ≤ 1000000 }
     requires machine { IsSome flat.old }
-    requires fresh { IfSome flat.old IsFresh }
-    ensures played { PlaysFrom flat.old (prepend_known script.old ((H.view host.old).handle 1).bytes) slots before (H.view host.old) (H.view host.new) result }
-    ensures fault { FaultOf (H.view host.old) (H.view host.new) result }
+    requires first { IfSome flat.old IsFirst }
+    ensures played { PlaysFrom flat.old (prepend_known script.old ((H.view host.old).handle 1).bytes) (config_of config.now)
+        step line.old before flat.new (H.view host.old) (H.view host.new) result }
+    ensures machine { result ≢ Status.NoMemory → IsSome flat.new }
+    ensures leaves { Leaves result (H.view host.old) (H.view host.new) }
     ensures not_usage { result ≢ Status.Usage }
 {
-    let mut at = before;
-    let mut sent = 0;
-    'events: for count in 0..MOST_LINES + 1 {
-        let found = match next_full_line(host, script, SCRIPT, line, at) {
-            Ok(found) => found,
-            Err(_) => return Status::HostFault,
-        };
-        match found.step {
+    let mut step = step;
+    'lines: for at in before..MOST_LINES {
+        match step {
             LineStep::Line => {}
             LineStep::End => return Status::Done,
-            LineStep::TooLong => return Status::NotBuilt(found.before + 1),
+            LineStep::TooLong => return Status::TooLong,
         }
-        let event = match event_line(line.as_slice(), slots, count) {
-            Some(event) => event,
-            None => return Status::NotBuilt(found.before + 1),
-        };
-        match serve(host, flat, &event, sent) {
-            Ok(now) => sent = now,
+        match take_line(host, flat, config, line.as_slice(), at) {
+            Ok(()) => {}
+            Err(Stop::Ended(ending)) => return Status::of(ending),
+            Err(Stop::NotBuilt) => return Status::NotBuilt(at + 1),
             Err(Stop::Host) => return Status::HostFault,
             Err(Stop::Memory) => return Status::NoMemory,
         }
-        at = found.before + 1;
+        step = match script.next_line(host, SCRIPT, line) {
+            Ok(step) => step,
+            Err(_) => return Status::HostFault,
+        };
     }
-    unreachable!()
+    match step {
+        LineStep::End => Status::Done,
+        LineStep::Line => Status::TooLong,
+        LineStep::TooLong => Status::TooLong,
+    }
 }

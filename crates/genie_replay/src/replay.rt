@@ -1,16 +1,21 @@
 //! The top call.
-ghost use Rattle.std.specs.Prelude.{◌≡◌, ◌≢◌, ◌↔◌, IsNone, IfSome, map, string_bytes};
+ghost use Rattle.std.specs.Prelude.{◌≡◌, ◌≢◌, ◌≤◌, ◌↔◌, IsNone, IfSome, map, string_bytes};
+ghost use Rattle.std.specs.Io.KnownBytes.{prepend_known};
+ghost use Rattle.genie_host.specs.Host.{Reading};
+ghost use Rattle.genie_replay.specs.Booted.{RunsBooted};
+ghost use Rattle.genie_replay.specs.Files.{HandleRose, HoldsOfOutputs, IsWriting};
 ghost use Rattle.genie_replay.specs.Outcome.{FaultOf, OutcomeOf, is_script_name, script_of};
 
-use crate::booting::{BootPart, read_boot};
-use crate::judge::REPLIES;
+use crate::booting::{BootRead, read_boot};
+use crate::files::{open_files, write_files};
 use crate::play::play;
-use crate::script::Script;
+use crate::script::{LineStep, SCRIPT, Script};
+use crate::serving::REPLIES;
 use crate::status::Status;
 use crate::write::write_all;
 use genie_host::{Host, OpenRefused};
 use genie_model::Flat;
-use genie_script::LineBuffer;
+use genie_script::{BootPart, LineBuffer};
 use std::alloc::Global;
 
 /// The most bytes of a script's name.
@@ -25,6 +30,44 @@ fn is_name_of_script(name: &[u8]) -> bool
     }
 }
 
+// Boots the machine, writes the reply to the boot part, steps the events, and then writes what the devices sent. The
+// files are open.
+fn run_booted<H: Host>(
+    alloc: Global,
+    host: &mut H,
+    script: &mut Script,
+    line: &mut LineBuffer,
+    part: &BootPart,
+    step: LineStep,
+    before: u64,
+) -> Status
+    requires input { ((H.view host.old).handle 1).mode ≡ Reading }
+    requires few { before ≤ 1000000 }
+    requires outputs { HoldsOfOutputs (IsWriting (H.view host.old)) 1 part.now.devices }
+    ensures runs { RunsBooted part.now (prepend_known script.old ((H.view host.old).handle 1).bytes) step line.old before
+        (H.view host.old) (H.view host.new) result }
+    ensures fault { result ≡ Status.HostFault → HandleRose (H.view host.old) (H.view host.new) }
+    ensures not_usage { result ≢ Status.Usage }
+{
+    let config = part.config();
+    let mut flat = match Flat::boot(alloc, &config) {
+        Ok(flat) => flat,
+        Err(_) => return Status::NoMemory,
+    };
+    match write_all(host, REPLIES, b"ok\n") {
+        Ok(()) => {}
+        Err(_) => return Status::HostFault,
+    }
+    let status = play(host, script, line, &mut flat, &config, step, before);
+    if status == Status::NoMemory {
+        return status;
+    }
+    match write_files(host, &flat, part.devices(), SCRIPT) {
+        Ok(()) => status,
+        Err(_) => Status::HostFault,
+    }
+}
+
 // Replays the script of this name.
 fn replay<H: Host>(alloc: Global, host: &mut H, name: &[u8]) -> Status
     requires { (H.view host.old).opened ≡ 0 }
@@ -32,47 +75,33 @@ fn replay<H: Host>(alloc: Global, host: &mut H, name: &[u8]) -> Status
     ensures fault { FaultOf (H.view host.old) (H.view host.new) result }
     ensures not_usage { result ≢ Status.Usage }
 {
-    let handle = match host.open_read(name) {
-        Ok(handle) => handle,
-        Err(OpenRefused::Memory) => return Status::NoMemory,
-        Err(OpenRefused::Failed) => return Status::HostFault,
-    };
-    let mut script = Script::new();
-    let mut line = LineBuffer::new();
-    let (config, file, before) = match read_boot(host, &mut script, handle, &mut line, name) {
-        Ok(BootPart::Booted(config, file, before)) => (config, file, before),
-        Ok(BootPart::Refused(number)) => return Status::NotBuilt(number),
-        Err(_) => return Status::HostFault,
-    };
-    match host.open_write(file.as_slice()) {
+    match host.open_read(name) {
         Ok(_) => {}
         Err(OpenRefused::Memory) => return Status::NoMemory,
         Err(OpenRefused::Failed) => return Status::HostFault,
     }
-    let mut flat = match Flat::boot(alloc, &config) {
-        Ok(flat) => flat,
-        Err(_) => return Status::NoMemory,
+    let mut script = Script::new();
+    let mut line = LineBuffer::new();
+    let (part, step, before) = match read_boot(alloc, host, &mut script, &mut line, name) {
+        Ok(BootRead::Whole(part, step, before)) => (part, step, before),
+        Ok(BootRead::Refused(ending)) => return Status::of(ending),
+        Ok(BootRead::NoMemory) => return Status::NoMemory,
+        Err(_) => return Status::HostFault,
     };
-    match write_all(host, REPLIES, b"ok\n") {
-        Ok(()) => play(
-            host,
-            &mut script,
-            &mut line,
-            &mut flat,
-            config.slots,
-            before,
-        ),
-        Err(_) => Status::HostFault,
+    match open_files(host, part.devices()) {
+        Ok(()) => run_booted(alloc, host, &mut script, &mut line, &part, step, before),
+        Err(OpenRefused::Memory) => Status::NoMemory,
+        Err(OpenRefused::Failed) => Status::HostFault,
     }
 }
 
-/// Replays the script that the words name: `replay` and a name. Its replies go to handle 0 of the host, what device 0
-/// sends to the file that the script names.
+/// Replays the script that the words name: `replay` and a name. Its replies go to handle 0 of the host, and what each
+/// device sends to the output that the script names for it.
 pub fn run<H: Host>(alloc: Global, words: &[String], host: &mut H) -> Status
     requires { (H.view host.old).opened ≡ 0 }
     // The words are wrong exactly with `Usage`.
     ensures usage { (result ≡ Status.Usage) ↔ IsNone (script_of (map string_bytes words.now)) }
-    // The replies and the output file are those of the flat machine.
+    // The replies and the outputs are those of the flat machine.
     ensures outcome { IfSome (script_of (map string_bytes words.now)) (λ name.
         OutcomeOf name ((H.view host.old).names name) (H.view host.old) (H.view host.new) result) }
     // `HostFault` comes only where a count rose.

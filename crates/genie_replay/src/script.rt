@@ -6,14 +6,14 @@ ghost use Rattle.genie_base.specs.Causes.{HasCause};
 ghost use Rattle.genie_replay.specs.Lines.{ReadsAhead, TakesByte, TakesLine, StaysWithin};
 
 use genie_host::{Failed, Host};
-use genie_script::LineBuffer;
+use genie_script::{LONGEST_LINE, LineBuffer};
 use std::marker::Model;
 
 /// How many bytes one read asks for at most.
 pub const PIECE: usize = 4096;
 
-/// How many bytes a line may have, without its end.
-pub const LONGEST: usize = 8300;
+/// The handle of the script, which is the first that a run opens.
+pub const SCRIPT: u32 = 1;
 
 /// What reading a line came to.
 #[derive(Clone, Copy, Debug, PartialEq, Eq)]
@@ -139,7 +139,7 @@ impl Script {
     {
         line.clear();
         'bytes: loop {
-            match self.next_byte(host, handle, LONGEST + 1 - line.len()) {
+            match self.next_byte(host, handle, LONGEST_LINE + 1 - line.len()) {
                 Err(error) => return Err(error),
                 Ok(None) => {
                     if line.is_empty() {
@@ -151,7 +151,7 @@ impl Script {
                     if byte == b'\n' {
                         return Ok(LineStep::Line);
                     }
-                    if line.len() == LONGEST {
+                    if line.len() == LONGEST_LINE {
                         return Ok(LineStep::TooLong);
                     }
                     line.push(byte);

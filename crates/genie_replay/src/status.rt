@@ -1,8 +1,8 @@
 //! How a run ends.
 ghost use Rattle.std.specs.Prelude.{◌≡◌, ◌+◌, ◌≤◌, ◌++◌, [], length, codes, decimal};
-ghost use Rattle.genie_replay.specs.Statuses.{code_of, status_text};
+ghost use Rattle.genie_replay.specs.Statuses.{code_of, status_of, status_text};
 
-use genie_script::LineBuffer;
+use genie_script::{Ending, LineBuffer};
 use itoa::Buffer;
 
 /// How a run ends. Lines are counted from 1.
@@ -38,6 +38,18 @@ fn put_numbered(out: &mut LineBuffer, before: &[u8], line: u64, after: &[u8])
 }
 
 impl Status {
+    /// The status of a run that came to the script's end.
+    pub fn of(ending: Ending) -> Status
+        ensures { result ≡ status_of ending }
+    {
+        match ending {
+            Ending::End => Status::Done,
+            Ending::BadLine(line) => Status::BadLine(line),
+            Ending::TooLong => Status::TooLong,
+            Ending::BadBoot(line) => Status::BadBoot(line),
+        }
+    }
+
     /// The code that the program ends with.
     pub fn code(self) -> u8
         ensures { result ≡ code_of self }

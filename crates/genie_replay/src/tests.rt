@@ -71,36 +71,6 @@ fn scripts(rt: HostRuntime) -> Result<(), Fail> {
             replies: b"ok\nok\nok\nid 1\nid 2\nid 3\nerr frames\nid 4\n",
             file: b"",
         },
-        Case {
-            script: b"boot 16 32 64 16 8\ndevice 0 early - o0 1 0\nspawn 1\n",
-            status: Status::NotBuilt(3),
-            replies: b"ok\n",
-            file: b"",
-        },
-        Case {
-            script: b"boot 16 32 64 16 8\ndevice 0 early - s 1 0\nspawn 0\n",
-            status: Status::NotBuilt(2),
-            replies: b"",
-            file: b"",
-        },
-        Case {
-            script: b"boot 16 32 64 16 8\n\n",
-            status: Status::NotBuilt(3),
-            replies: b"",
-            file: b"",
-        },
-        Case {
-            script: b"boot 17 32 64 16 8\n",
-            status: Status::NotBuilt(1),
-            replies: b"",
-            file: b"",
-        },
-        Case {
-            script: b"",
-            status: Status::NotBuilt(1),
-            replies: b"",
-            file: b"",
-        },
     ];
     for case in cases.iter() {
         let mut host = host_with(rt.alloc(), case.script, 4096)?;
@@ -108,6 +78,233 @@ fn scripts(rt: HostRuntime) -> Result<(), Fail> {
         assert_eq!(rt; status, case.status);
         assert!(rt; is_written(&host, b"", case.replies));
         assert!(rt; is_written(&host, b"o0", case.file));
+    }
+    Ok(())
+}
+
+// Scripts, how their runs end, and the replies.
+const BOOT_PARTS: &[(&[u8], Status, &[u8])] = &[
+    (b"boot 16 32 64 16 8", Status::Done, b"ok\n"),
+    (b"boot 4096 4096 8192 65536 4096\n", Status::Done, b"ok\n"),
+    (
+        b"boot 16 32 64 16 8\nspawn 0\nread 0 0 01\n",
+        Status::BadLine(3),
+        b"ok\nok\n",
+    ),
+    // no boot line, or another one before it
+    (b"", Status::BadBoot(0), b""),
+    (b"\n# a comment\n", Status::BadBoot(0), b""),
+    (b"spawn 0\n", Status::BadLine(1), b""),
+    (b"\ndevice 0 early - - 1 0\n", Status::BadLine(2), b""),
+    (b"boot 16 32 64 16\n", Status::BadLine(1), b""),
+    // each bound of a boot line
+    (b"boot 24 32 64 16 8\n", Status::BadBoot(1), b""),
+    (b"boot 8192 32 64 16 8\n", Status::BadBoot(1), b""),
+    (b"#\nboot 16 15 64 16 8\n", Status::BadBoot(2), b""),
+    (b"boot 16 4097 64 16 8\n", Status::BadBoot(1), b""),
+    (b"boot 16 32 0 16 8\n", Status::BadBoot(1), b""),
+    (b"boot 16 32 8193 16 8\n", Status::BadBoot(1), b""),
+    (b"boot 16 32 64 257 8\n", Status::BadBoot(1), b""),
+    (b"boot 16 32 64 16 17\n", Status::BadBoot(1), b""),
+    // a boot or a device line behind its part
+    (
+        b"boot 16 32 64 16 8\nboot 16 32 64 16 8\n",
+        Status::BadLine(2),
+        b"ok\n",
+    ),
+    (
+        b"boot 16 32 64 16 8\nspawn 0\nboot 16 32 64 16 8\n",
+        Status::BadLine(3),
+        b"ok\nok\n",
+    ),
+    (
+        b"boot 16 32 64 16 8\nspawn 0\ndevice 0 early - - 1 0\n",
+        Status::BadLine(3),
+        b"ok\nok\n",
+    ),
+    // what a first word is
+    (
+        b"boot 16 32 64 16 8\ndevices 0 early - - 1 0\n",
+        Status::BadLine(2),
+        b"ok\n",
+    ),
+    (
+        b"boot 16 32 64 16 8\ndevice\t0 early - - 1 0\n",
+        Status::BadLine(2),
+        b"ok\n",
+    ),
+    (b"boot 16 32 64 16 8\ndevice\n", Status::BadLine(2), b""),
+    // the grammar comes before the bounds
+    (
+        b"boot 16 32 64 16 8\ndevice 8 early - - 1\n",
+        Status::BadLine(2),
+        b"",
+    ),
+    (
+        b"boot 16 32 64 16 8\ndevice 0 late - - 1 0\n",
+        Status::BadLine(2),
+        b"",
+    ),
+    // each bound of a device line
+    (
+        b"boot 16 32 64 16 8\ndevice 7 early - - 1 0\n",
+        Status::Done,
+        b"ok\n",
+    ),
+    (
+        b"boot 16 32 64 16 8\ndevice 8 early - - 1 0\n",
+        Status::BadBoot(2),
+        b"",
+    ),
+    (
+        b"boot 16 32 64 16 8\ndevice 0 early - - 1 0\n\ndevice 0 early - - 1 0\n",
+        Status::BadBoot(4),
+        b"",
+    ),
+    (
+        b"boot 16 32 64 16 8\ndevice 0 early - - 0 0\n",
+        Status::BadBoot(2),
+        b"",
+    ),
+    (
+        b"boot 16 32 64 16 8\ndevice 0 early - - 2 0\n",
+        Status::BadBoot(2),
+        b"",
+    ),
+    (
+        b"boot 16 96 64 16 8\ndevice 0 pooled - - 4 15\n",
+        Status::Done,
+        b"ok\n",
+    ),
+    (
+        b"boot 16 96 64 16 8\ndevice 0 pooled - - 5 0\n",
+        Status::BadBoot(2),
+        b"",
+    ),
+    (
+        b"boot 16 96 64 16 8\ndevice 0 pooled - - 1 16\n",
+        Status::BadBoot(2),
+        b"",
+    ),
+    (
+        b"boot 16 32 64 16 8\ndevice 0 outboard - - 4 0\n",
+        Status::Done,
+        b"ok\n",
+    ),
+    (
+        b"boot 16 32 64 16 8\ndevice 0 outboard - - 1 1\n",
+        Status::BadBoot(2),
+        b"",
+    ),
+    (
+        b"boot 16 32 64 16 8\ndevice 0 early - - 1 1\n",
+        Status::BadBoot(2),
+        b"",
+    ),
+    (
+        b"boot 16 41 64 16 8\ndevice 0 pooled - - 2 0\n",
+        Status::BadBoot(2),
+        b"",
+    ),
+    (
+        b"boot 16 42 64 16 8\ndevice 0 pooled - - 1 0\ndevice 1 pooled - - 1 0\n",
+        Status::Done,
+        b"ok\n",
+    ),
+    (
+        b"boot 16 41 64 16 8\ndevice 0 pooled - - 1 0\ndevice 1 pooled - - 1 0\n",
+        Status::BadBoot(3),
+        b"",
+    ),
+    // names
+    (
+        b"boot 16 32 64 16 8\ndevice 0 early s - 1 0\ndevice 1 early s o0 1 0\n",
+        Status::Done,
+        b"ok\n",
+    ),
+    (
+        b"boot 16 32 64 16 8\ndevice 0 early - s 1 0\n",
+        Status::BadBoot(2),
+        b"",
+    ),
+    (
+        b"boot 16 32 64 16 8\ndevice 0 early o0 o0 1 0\n",
+        Status::BadBoot(2),
+        b"",
+    ),
+    (
+        b"boot 16 32 64 16 8\ndevice 0 early - o0 1 0\ndevice 1 early - o0 1 0\n",
+        Status::BadBoot(3),
+        b"",
+    ),
+    (
+        b"boot 16 32 64 16 8\ndevice 0 early o0 - 1 0\ndevice 1 early - o0 1 0\n",
+        Status::BadBoot(3),
+        b"",
+    ),
+    (
+        b"boot 16 32 64 16 8\ndevice 0 early - o0 1 0\ndevice 1 early o0 - 1 0\n",
+        Status::BadBoot(3),
+        b"",
+    ),
+    // what isn't served yet
+    (
+        b"boot 16 32 64 16 8\nspawn 0\n\nrecv 0 1\nnothing\n",
+        Status::NotBuilt(4),
+        b"ok\nok\n",
+    ),
+];
+
+#[test]
+fn boot_parts(rt: HostRuntime) -> Result<(), Fail> {
+    for (script, status, replies) in BOOT_PARTS {
+        let mut host = host_with(rt.alloc(), script, 4096)?;
+        assert_eq!(rt;
+            run_words(rt.alloc(), &mut host, &["replay", "s"])?,
+            *status
+        );
+        assert!(rt; is_written(&host, b"", replies));
+    }
+    Ok(())
+}
+
+// These bytes, a comment of so many bytes, and these bytes.
+fn with_comment(
+    alloc: Global,
+    head: &[u8],
+    count: usize,
+    tail: &[u8],
+) -> Result<Vec<u8>, AllocError> {
+    let mut script = Vec::new(alloc);
+    script.extend_from_slice(head)?;
+    for _ in 0..count {
+        script.push(b'#')?;
+    }
+    script.extend_from_slice(tail)?;
+    Ok(script)
+}
+
+#[test]
+fn long_lines(rt: HostRuntime) -> Result<(), Fail> {
+    let boot = b"boot 16 32 64 16 8\n".as_slice();
+    let device = b"boot 16 32 64 16 8\ndevice 0 early - o0 1 0\n".as_slice();
+    let table: &[(&[u8], usize, &[u8], Status, &[u8])] = &[
+        (boot, 8300, b"", Status::Done, b"ok\n"),
+        (boot, 8301, b"", Status::TooLong, b"ok\n"),
+        (boot, 8300, b"\nnothing\n", Status::BadLine(3), b"ok\n"),
+        (boot, 8301, b"\nnothing\n", Status::TooLong, b"ok\n"),
+        (device, 8301, b"\n", Status::TooLong, b"ok\n"),
+        (b"", 8301, b"\nboot 16 32 64 16 8\n", Status::TooLong, b""),
+        (b"", 8300, b"\nboot 16 32 64 16 8\n", Status::Done, b"ok\n"),
+    ];
+    for (head, count, tail, status, replies) in table {
+        let script = with_comment(rt.alloc(), head, *count, tail)?;
+        let mut host = host_with(rt.alloc(), script.as_slice(), 4096)?;
+        assert_eq!(rt;
+            run_words(rt.alloc(), &mut host, &["replay", "s"])?,
+            *status
+        );
+        assert!(rt; is_written(&host, b"", replies));
     }
     Ok(())
 }
@@ -143,7 +340,7 @@ fn faults(rt: HostRuntime) -> Result<(), Fail> {
         (b"s", 55, b"ok\nok\n"),
         (b"", 0, b""),
         (b"", 5, b"ok\nok"),
-        (b"o0", 4, b"ok\nok\nok\nok\nid 1\n"),
+        (b"o0", 4, b"ok\nok\nok\nok\nid 1\nsent 10\nout 2\n"),
     ];
     for (name, at, replies) in table {
         let mut host = host_with(rt.alloc(), FIRST, 4096)?;
@@ -201,5 +398,33 @@ fn sixty_four_transfers(rt: HostRuntime) -> Result<(), Fail> {
         Status::Done
     );
     assert!(rt; is_written(&host, b"", replies.as_slice()));
+    Ok(())
+}
+
+#[test]
+fn two_devices(rt: HostRuntime) -> Result<(), Fail> {
+    let script =
+        b"boot 16 32 64 16 8\ndevice 1 early - o1 1 0\ndevice 0 early s o0 1 0\nspawn 0\nmap 0 0 1\nwrite 0 0 aabb\nout 0 c 1 5 0 1\nout 0 c 0 6 1 1\nsend 0 9\nsend 1 9\n";
+    let mut host = host_with(rt.alloc(), script, 4096)?;
+    host.sink(b"o1", 4096)?;
+    assert_eq!(rt;
+        run_words(rt.alloc(), &mut host, &["replay", "s"])?,
+        Status::Done
+    );
+    assert!(rt; is_written(&host, b"", b"ok\nok\nok\nok\nid 1\nid 2\nsent 9\nsent 9\n"));
+    assert!(rt; is_written(&host, b"o1", b"GD\x00\x05\x00\x00\x00\x01\xaa"));
+    assert!(rt; is_written(&host, b"o0", b"GD\x00\x06\x00\x00\x00\x01\xbb"));
+    // an input that isn't there: nothing else is opened, and nothing is written
+    let mut host = host_with(
+        rt.alloc(),
+        b"boot 16 32 64 16 8\ndevice 0 early i0 o0 1 0\n",
+        4096,
+    )?;
+    assert_eq!(rt;
+        run_words(rt.alloc(), &mut host, &["replay", "s"])?,
+        Status::HostFault
+    );
+    assert!(rt; is_written(&host, b"", b""));
+    assert_eq!(rt; host.refusals(), 1);
     Ok(())
 }

@@ -18,8 +18,8 @@ returns-then-byte-eq10-clause-line g c =
     let taken = rw c.in-Ok-Some.field-0-is at c.in-Ok-Some.ensures in
     line_done _ _ _ _ c.bytes.line _ c.bytes.invariant.taken c.bytes.invariant.plain c.bytes.invariant.short taken.bytes (search rules)
 
-pub returns-then-len-eq-LONGEST-clause-line : goal.returns-then-len-eq-LONGEST-clause-line
-returns-then-len-eq-LONGEST-clause-line g c =
+pub returns-then-len-eq-LONGEST_LINE-clause-line : goal.returns-then-len-eq-LONGEST_LINE-clause-line
+returns-then-len-eq-LONGEST_LINE-clause-line g c =
     let taken = rw c.in-Ok-Some.field-0-is at c.in-Ok-Some.ensures in
     line_long _ _ _ _ c.bytes.line _ c.bytes.invariant.taken c.bytes.invariant.plain (search rules) taken.bytes (search rules)
 

@@ -1,0 +1,197 @@
+-- Opening the devices' files, and writing them.
+use Rattle.std.proofs.Common.{◌≡◌, ◌≢◌, ℕ, ◌+◌, ◌<◌, true, false, List, [], ◌∷◌, ◌++◌, length, refl, ap, sym, ◌∙◌, arith, append-nil, append_assoc, subst}
+use Rattle.std.specs.Prelude.{Option, Some, None, Ok, Err, Result, OnOk, IfSome, IsSome, ◌==◌}
+use Rattle.std.proofs.lemmas.Bool.Decides.{nat_tests}
+use Rattle.genie_base.specs.declared.semantics.Direction.{Direction}
+use Rattle.std.proofs.lemmas.List.{length-append}
+use Rattle.genie_host.specs.Host.{HostView, HandleState, Mode, OnlyHandle, Opens}
+use Rattle.genie_base.specs.declared.semantics.Direction.TheVariants.{Inward, Outward}
+use Rattle.genie_model.specs.Flat.{sent_of}
+use Rattle.genie_model.specs.State.{State}
+use Rattle.genie_script.specs.declared.line.DeviceLine.{DeviceLine}
+use Rattle.genie_replay.specs.Files.{file_opening, openings_of, HandleRose, HasSent, HasSentFront, HoldsOfFile, HoldsOfOutputs, IsFresh, IsFreshOutput, IsWriting, KeptUpTo, OpensAll, SameFaults, WritesFile, WritesFiles}
+use Rattle.genie_replay.specs.Write.{AppendsFront}
+use Rattle.genie_replay.proofs.Writing.{appends_nothing}
+
+file_map : (P Q : ℕ → ℕ → Type 0) (opened : ℕ) (d : DeviceLine) (o : Option (List ℕ)) → d.output ≡ o → ((n h : ℕ) → opened < h → P n h → Q n h) → HoldsOfFile P o d.number (opened + length (openings_of d)) → HoldsOfFile Q o d.number (opened + length (openings_of d))
+file_map P Q opened d None is f p = tt
+file_map P Q opened d (Some name) is f p =
+    let named : length (openings_of d) ≡ length (file_opening Inward d.input) + 1 = ap (λ o. length (file_opening Inward d.input ++ file_opening Outward o)) is ∙ length-append (file_opening Inward d.input) ((name, Outward) ∷ []) in
+    f d.number (opened + length (openings_of d)) (omega (arith, named)) p
+
+-- a test of outputs that is only about later handles
+pub outputs_map : (P Q : ℕ → ℕ → Type 0) (opened : ℕ) (ds : List DeviceLine) → ((n h : ℕ) → opened < h → P n h → Q n h) → HoldsOfOutputs P opened ds → HoldsOfOutputs Q opened ds
+outputs_map P Q opened [] f p = tt
+outputs_map P Q opened (d ∷ ds) f p = (
+  file_map P Q opened d d.output refl f p.0,
+  outputs_map P Q (opened + length (openings_of d)) ds (λ n h later q. f n h (omega arith) q) p.1,
+)
+
+file_any : (o : Option (List ℕ)) (n h : ℕ) → HoldsOfFile (λ n h. Unit {0}) o n h
+file_any None n h = tt
+file_any (Some name) n h = tt
+
+pub outputs_all : (Q : ℕ → ℕ → Type 0) (opened : ℕ) (ds : List DeviceLine) → ((n h : ℕ) → opened < h → Q n h) → HoldsOfOutputs Q opened ds
+outputs_all Q opened [] f = tt
+outputs_all Q opened (d ∷ ds) f = (
+  file_map (λ n h. Unit {0}) Q opened d d.output refl (λ n h later p. f n h later) (file_any d.output d.number (opened + length (openings_of d))),
+  outputs_all Q (opened + length (openings_of d)) ds (λ n h later. f n h (omega arith)),
+)
+
+pub same_faults : (v : HostView) → SameFaults v v
+same_faults v = record { handles = λ k. refl; refusals = refl }
+
+pub same_trans : (u v w : HostView) → SameFaults u v → SameFaults v w → SameFaults u w
+same_trans u v w a b = record { handles = λ k. b.handles k ∙ a.handles k; refusals = b.refusals ∙ a.refusals }
+
+-- a call on one handle that counted nothing
+pub only_faults : (handle : ℕ) (u v : HostView) → OnlyHandle handle u v → (v.handle handle).faults ≡ (u.handle handle).faults → SameFaults u v
+only_faults handle u v only count = record {
+  handles = λ k. elim (k == handle) as (λ b. (k == handle) ≡ b → (v.handle k).faults ≡ (u.handle k).faults) [
+    | true ↦ λ e. let same : k ≡ handle = grind (arith, nat_tests, e) in rw same count
+    | false ↦ λ e. let other : k ≢ handle = λ s. grind (arith, nat_tests, e, s) in ap (λ (h : HandleState). h.faults) (only.others k other)
+  ] refl;
+  refusals = only.refusals;
+}
+
+-- an opening that was answered
+pub opened_one : {E : Type 0} (name : List ℕ) (direction : Direction) (mode : Mode) (content : Option (List ℕ)) (e : E) (k : ℕ) (u v : HostView) → Opens name direction mode content e u v (Ok k) → OpensAll ((name, direction) ∷ []) u v
+opened_one name direction mode content e k u v o = record {
+  tried = o.tried;
+  opened = o.opened;
+  faults = record {
+    handles = λ h. elim (h == u.opened + 1) as (λ b. (h == u.opened + 1) ≡ b → (v.handle h).faults ≡ (u.handle h).faults) [
+      | true ↦ λ t. let same : h ≡ u.opened + 1 = grind (arith, nat_tests, t) in rw same o.fault_count
+      | false ↦ λ t. let other : h ≢ u.opened + 1 = λ s. grind (arith, nat_tests, t, s) in ap (λ (x : HandleState). x.faults) (o.others h other)
+    ] refl;
+    refusals = o.kept;
+  };
+}
+
+pub opening_one : {E : Type 0} (name : List ℕ) (direction : Direction) (mode : Mode) (content : Option (List ℕ)) (e : E) (u v : HostView) (r : Result ℕ E) → Opens name direction mode content e u v r → KeptUpTo u.opened u v
+opening_one name direction mode content e u v r o = λ k low. o.others k (λ s. omega (arith, s, low))
+
+opens_none : (v : HostView) → OpensAll [] v v
+opens_none v = record { tried = sym (append-nil v.tried); opened = omega arith; faults = same_faults v }
+
+pub opens_more : (a b : List (List ℕ × Direction)) (u v w : HostView) → OpensAll a u v → OpensAll b v w → OpensAll (a ++ b) u w
+opens_more a b u v w p q = record {
+  tried = q.tried ∙ ap (λ t. t ++ b) p.tried ∙ append_assoc u.tried a b;
+  opened = let first : v.opened ≡ u.opened + length a = p.opened in let second : w.opened ≡ v.opened + length b = q.opened in omega (arith, first, second, length-append a b);
+  faults = same_trans u v w p.faults q.faults;
+}
+
+-- what one output's writing leaves of the others
+others_kept : {E : Type 0} (o : Option (List ℕ)) (s : State) (n last : ℕ) (old mid : HostView) (r : Result (Unit {0}) E) → WritesFile o s n last old mid r → (h : ℕ) → h ≢ last → mid.handle h ≡ old.handle h
+others_kept None s n last old mid r w h other = rw w.0 refl
+others_kept (Some name) s n last old mid r w h other = w.only.others h other
+
+file_faults : (E : Type 0) (o : Option (List ℕ)) (s : State) (n last : ℕ) (old mid : HostView) (u : Unit {0}) → WritesFile {E = E} o s n last old mid (Ok u) → SameFaults old mid
+file_faults E None s n last old mid u w = rw w.0 (same_faults old)
+file_faults E (Some name) s n last old mid u w = only_faults last old mid w.only w.cause.kept
+
+file_tried : {E : Type 0} (o : Option (List ℕ)) (s : State) (n last : ℕ) (old mid : HostView) (r : Result (Unit {0}) E) → WritesFile o s n last old mid r → mid.tried ≡ old.tried
+file_tried None s n last old mid r w = rw w.0 refl
+file_tried (Some name) s n last old mid r w = w.only.tried
+
+-- handles up to the one before the line's files stay
+kept_before : {E : Type 0} (d : DeviceLine) (o : Option (List ℕ)) → d.output ≡ o → (s : State) (opened : ℕ) (old mid : HostView) (r : Result (Unit {0}) E) → WritesFile o s d.number (opened + length (openings_of d)) old mid r → KeptUpTo opened old mid
+kept_before d None is s opened old mid r w k low = rw w.0 refl
+kept_before d (Some name) is s opened old mid r w k low =
+    let named : length (openings_of d) ≡ length (file_opening Inward d.input) + 1 = ap (λ o. length (file_opening Inward d.input ++ file_opening Outward o)) is ∙ length-append (file_opening Inward d.input) ((name, Outward) ∷ []) in
+    w.only.others k (λ e. omega (arith, named, e, low))
+
+pub still_writing : (E : Type 0) (flat : Option State) (o : Option (List ℕ)) (n last : ℕ) (ds : List DeviceLine) (old mid : HostView) (u : Unit {0}) → IsSome flat → IfSome flat (λ s. WritesFile {E = E} o s n last old mid (Ok u)) → HoldsOfOutputs (IsWriting old) last ds → HoldsOfOutputs (IsWriting mid) last ds
+still_writing E None o n last ds old mid u some w p = absurd (cc)
+still_writing E (Some s) o n last ds old mid u some w p = outputs_map (IsWriting old) (IsWriting mid) last ds (λ k h later m. ap (λ (x : HandleState). x.mode) (others_kept {E = E} o s n last old mid (Ok u) w h (λ e. omega (arith, e, later))) ∙ m) p
+
+head_sent : (E : Type 0) (o : Option (List ℕ)) (s : State) (n last : ℕ) (old mid new : HostView) (u : Unit {0}) → WritesFile {E = E} o s n last old mid (Ok u) → KeptUpTo last mid new → HoldsOfFile (HasSent s old new) o n last
+head_sent E None s n last old mid new u w kept = tt
+head_sent E (Some name) s n last old mid new u w kept = let same : new.handle last ≡ mid.handle last = kept last (omega arith) in rw same w.whole
+
+head_front : (E : Type 0) (o : Option (List ℕ)) (s : State) (n last : ℕ) (old mid new : HostView) (u : Unit {0}) → WritesFile {E = E} o s n last old mid (Ok u) → KeptUpTo last mid new → HoldsOfFile (HasSentFront s old new) o n last
+head_front E None s n last old mid new u w kept = tt
+head_front E (Some name) s n last old mid new u w kept = let same : new.handle last ≡ mid.handle last = kept last (omega arith) in (sent_of s n, [], sym (append-nil (sent_of s n)), rw same w.whole)
+
+pub front_none : (k : Option (List ℕ)) (bytes : List ℕ) → AppendsFront k k bytes
+front_none k bytes = ([], bytes, refl, appends_nothing k)
+
+failed_front : {E : Type 0} (o : Option (List ℕ)) (s : State) (n last : ℕ) (old new : HostView) (e : E) → WritesFile o s n last old new (Err e) → HoldsOfFile (HasSentFront s old new) o n last
+failed_front None s n last old new e w = tt
+failed_front (Some name) s n last old new e w = w.front
+
+failed_cause : {E : Type 0} (o : Option (List ℕ)) (s : State) (n last : ℕ) (old new : HostView) (e : E) → WritesFile o s n last old new (Err e) → HandleRose old new
+failed_cause None s n last old new e w = absurd w.1
+failed_cause (Some name) s n last old new e w = (last, w.cause.failed)
+
+-- no output is left
+pub files_none : (E : Type 0) (flat : Option State) (opened : ℕ) (v : HostView) → IfSome flat (λ s. WritesFiles {E = E} s opened [] v v (Ok tt))
+files_none E None opened v = tt
+files_none E (Some s) opened v = record { kept = λ k low. refl; tried = refl; whole = tt; front = tt; cause = tt; faults = same_faults v }
+
+all_whole : (E : Type 0) (s : State) (opened : ℕ) (d : DeviceLine) (ds : List DeviceLine) (old mid new : HostView) (u : Unit {0}) (r : Result (Unit {0}) E) → WritesFile {E = E} d.output s d.number (opened + length (openings_of d)) old mid (Ok u) → WritesFiles s (opened + length (openings_of d)) ds mid new r → WritesFiles s opened (d ∷ ds) old new r
+all_whole E s opened d ds old mid new u (Ok v) w p = record {
+  kept = λ k low. p.kept k (omega arith) ∙ kept_before {E = E} d d.output refl s opened old mid (Ok u) w k low;
+  tried = p.tried ∙ file_tried {E = E} d.output s d.number _ old mid (Ok u) w;
+  whole = (
+    head_sent E d.output s d.number _ old mid new u w p.kept,
+    outputs_map (HasSent s mid new) (HasSent s old new) _ ds (λ n h later a. let same : mid.handle h ≡ old.handle h = others_kept {E = E} d.output s d.number _ old mid (Ok u) w h (λ e. omega (arith, e, later)) in rw (← same) a) p.whole,
+  );
+  front = tt;
+  cause = tt;
+  faults = same_trans old mid new (file_faults E d.output s d.number _ old mid u w) p.faults;
+}
+all_whole E s opened d ds old mid new u (Err e) w p = record {
+  kept = λ k low. p.kept k (omega arith) ∙ kept_before {E = E} d d.output refl s opened old mid (Ok u) w k low;
+  tried = p.tried ∙ file_tried {E = E} d.output s d.number _ old mid (Ok u) w;
+  whole = tt;
+  front = (
+    head_front E d.output s d.number _ old mid new u w p.kept,
+    outputs_map (HasSentFront s mid new) (HasSentFront s old new) _ ds (λ n h later a. let same : mid.handle h ≡ old.handle h = others_kept {E = E} d.output s d.number _ old mid (Ok u) w h (λ e. omega (arith, e, later)) in rw (← same) a) p.front,
+  );
+  cause =
+      let faults = file_faults E d.output s d.number _ old mid u w in
+      let rose = p.cause in
+      (rose.0, rw (← faults.handles rose.0) rose.1);
+  faults = tt;
+}
+
+-- one output more was written
+pub files_more : (E : Type 0) (flat : Option State) (opened count : ℕ) (all ds : List DeviceLine) (d : DeviceLine) (old mid new : HostView) (u : Unit {0}) (r : Result (Unit {0}) E)
+    → all ≡ d ∷ ds → count ≡ length (openings_of d) → IfSome flat (λ s. WritesFile {E = E} d.output s d.number (opened + count) old mid (Ok u)) → IfSome flat (λ s. WritesFiles s (opened + count) ds mid new r) → IfSome flat (λ s. WritesFiles s opened all old new r)
+files_more E None opened count all ds d old mid new u r is counted w p = tt
+files_more E (Some s) opened count all ds d old mid new u r is counted w p = rw is (all_whole E s opened d ds old mid new u r (rw counted at w) (rw counted at p))
+
+-- or its writing failed
+pub files_failed : {E : Type 0} (flat : Option State) (opened count : ℕ) (all ds : List DeviceLine) (d : DeviceLine) (old new : HostView) (e : E)
+    → all ≡ d ∷ ds → count ≡ length (openings_of d) → IfSome flat (λ s. WritesFile d.output s d.number (opened + count) old new (Err e)) → IfSome flat (λ s. WritesFiles s opened all old new (Err e))
+files_failed None opened count all ds d old new e is counted w = tt
+files_failed (Some s) opened count all ds d old new e is counted w =
+    let f : WritesFile d.output s d.number (opened + length (openings_of d)) old new (Err e) = rw counted at w in
+    rw is (record {
+      kept = kept_before d d.output refl s opened old new (Err e) f;
+      tried = file_tried d.output s d.number _ old new (Err e) f;
+      whole = tt;
+      front = (
+        failed_front d.output s d.number _ old new e f,
+        outputs_all (HasSentFront s old new) _ ds (λ n h later. let same : new.handle h ≡ old.handle h = others_kept d.output s d.number _ old new (Err e) f h (λ x. omega (arith, x, later)) in rw same (front_none (old.handle h).bytes (sent_of s n))),
+      );
+      cause = failed_cause d.output s d.number _ old new e f;
+      faults = tt;
+    })
+
+-- the outputs that were opened are fresh
+fresh_head : (d : DeviceLine) (o : Option (List ℕ)) (a b handle : ℕ) (old mid new : HostView) → HoldsOfFile (IsFresh old mid) o a b → b ≡ handle → new.handle handle ≡ mid.handle handle → HoldsOfFile (IsFresh old new) o d.number handle
+fresh_head d None a b handle old mid new f is same = tt
+fresh_head d (Some name) a b handle old mid new f is same = rw same (rw is at f)
+
+pub fresh_more : {E : Type 0} (all ds : List DeviceLine) (d : DeviceLine) (old mid new : HostView) (r : Result (Unit {0}) E)
+    → all ≡ d ∷ ds → OpensAll (openings_of d) old mid → KeptUpTo old.opened old mid → HoldsOfFile (IsFresh old mid) d.output 0 mid.opened → KeptUpTo mid.opened mid new → OnOk r (HoldsOfOutputs (IsFresh mid new) mid.opened ds) → OnOk r (HoldsOfOutputs (IsFresh old new) old.opened all)
+fresh_more all ds d old mid new (Err e) is o kept f later p = tt
+fresh_more all ds d old mid new (Ok u) is o kept f later p =
+    let count : mid.opened ≡ old.opened + length (openings_of d) = o.opened in
+    let replies : mid.handle 0 ≡ old.handle 0 = kept 0 (omega arith) in
+    rw is (
+      fresh_head d d.output 0 mid.opened (old.opened + length (openings_of d)) old mid new f count (later _ (omega arith)),
+      rw (← count) (outputs_map (IsFresh mid new) (IsFresh old new) mid.opened ds (λ n h after q. subst (λ (x : HandleState). IsFreshOutput x.bytes (new.handle h)) replies q) p),
+    )

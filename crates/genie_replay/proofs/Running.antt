@@ -1,0 +1,204 @@
+-- From `ok` and the events to the devices' outputs.
+use Rattle.std.proofs.Common.{◌≡◌, ◌≢◌, ℕ, ◌<◌, ◌≤◌, List, [], ◌∷◌, ◌++◌, refl, ap, sym, ◌∙◌, append_assoc, append-nil, arith, subst, inr}
+use Rattle.std.specs.Prelude.{Option, Some, None, Ok, Err, IfSome, IsSome}
+use Rattle.std.specs.Io.KnownBytes.{Appends}
+use Rattle.genie_base.specs.Causes.{Rose}
+use Rattle.genie_base.specs.Configs.{Config}
+use Rattle.genie_host.specs.Host.{HostView, HandleState}
+use Rattle.genie_model.specs.Flat.{sent_of}
+use Rattle.genie_model.specs.State.{State}
+use Rattle.genie_script.specs.Judge.{Numbered, Part, events_from}
+use Rattle.genie_script.specs.declared.line.DeviceLine.{DeviceLine}
+use Rattle.genie_replay.specs.declared.script.LineStep.{LineStep}
+use Rattle.genie_replay.specs.declared.status.Status.{Status}
+use Rattle.genie_replay.specs.declared.status.Status.TheVariants as status
+use Rattle.genie_replay.specs.Booted.{Runs, RunsAll, RunsBooted, RunsInPart}
+use Rattle.genie_replay.specs.Files.{HandleRose, HasSent, HasSentFront, HoldsOfOutputs, IsWriting, SameFaults, WritesFiles}
+use Rattle.genie_replay.specs.Outcome.{okay, start_of, texts}
+use Rattle.genie_replay.specs.Plays.{Leaves, OnlyRun, Played, PlayedInPart, Plays, PlaysFrom}
+use Rattle.genie_replay.specs.Write.{WritesAll}
+use Rattle.genie_replay.proofs.Filing.{front_none, only_faults, outputs_all, outputs_map}
+use Rattle.genie_replay.proofs.Stepping.{later_more, later_same}
+use Rattle.genie_replay.proofs.Writing.{appends_more}
+
+-- `ok` was written, and then the events were run
+pub record Begun (old mid after : HostView) : Type 0 where
+  pub okay_written : Appends (old.handle 0).bytes (mid.handle 0).bytes okay
+  pub outputs : (h : ℕ) → 1 < h → after.handle h ≡ old.handle h
+  pub tried : after.tried ≡ old.tried
+
+pub begun : (E : Type 0) (old mid after : HostView) (u : Unit {0}) → WritesAll {E = E} 0 old mid (Ok u) okay → OnlyRun mid after → Begun old mid after
+begun E old mid after u w r = record {
+  okay_written = w.whole;
+  outputs = λ h later. r.others h (λ e. omega (arith, e, later)) (λ e. omega (arith, e, later)) ∙ w.only.others h (λ e. omega (arith, e, later));
+  tried = r.tried ∙ w.only.tried;
+}
+
+-- the outputs can be written to
+pub outputs_writing : (old mid after : HostView) (ds : List DeviceLine) → Begun old mid after → HoldsOfOutputs (IsWriting old) 1 ds → HoldsOfOutputs (IsWriting after) 1 ds
+outputs_writing old mid after ds b p = outputs_map (IsWriting old) (IsWriting after) 1 ds (λ n h later m. ap (λ (x : HandleState). x.mode) (b.outputs h later) ∙ m) p
+
+all_sent : (s : State) (old mid after new : HostView) (ds : List DeviceLine) → Begun old mid after → HoldsOfOutputs (HasSent s after new) 1 ds → HoldsOfOutputs (HasSent s old new) 1 ds
+all_sent s old mid after new ds b p = outputs_map (HasSent s after new) (HasSent s old new) 1 ds (λ n h later q. let same : after.handle h ≡ old.handle h = b.outputs h later in rw (← same) q) p
+
+fronts_sent : (s : State) (old mid after new : HostView) (ds : List DeviceLine) → Begun old mid after → HoldsOfOutputs (HasSentFront s after new) 1 ds → HoldsOfOutputs (HasSentFront s old new) 1 ds
+fronts_sent s old mid after new ds b p = outputs_map (HasSentFront s after new) (HasSentFront s old new) 1 ds (λ n h later q. let same : after.handle h ≡ old.handle h = b.outputs h later in rw (← same) q) p
+
+whole_fronts : (s : State) (old new : HostView) (ds : List DeviceLine) → HoldsOfOutputs (HasSent s old new) 1 ds → HoldsOfOutputs (HasSentFront s old new) 1 ds
+whole_fronts s old new ds p = outputs_map (HasSent s old new) (HasSentFront s old new) 1 ds (λ n h later q. (sent_of s n, [], sym (append-nil (sent_of s n)), q)) p
+
+cc_some : (s t : State) → Some s ≡ Some t → s ≡ t
+cc_some s t e = cc
+
+all_runs : (c : Config) (ds : List DeviceLine) (events : List Numbered) (s : State) (old mid after new : HostView) → Begun old mid after → Played c (start_of c) events (Some s) mid after → HoldsOfOutputs (HasSent s after new) 1 ds → new.handle 0 ≡ after.handle 0 → new.tried ≡ after.tried → RunsAll c ds events old new
+all_runs c ds events s old mid after new b p sent replies tried =
+    let last : s ≡ p.last = cc_some s p.last p.machine_is in
+    record {
+      replies = p.replies;
+      last = p.last;
+      follows = p.follows;
+      built = p.built;
+      written = rw replies (appends_more (old.handle 0).bytes (mid.handle 0).bytes (after.handle 0).bytes okay (texts p.replies) b.okay_written p.written);
+      sent = rw (← last) (all_sent s old mid after new ds b sent);
+      tried = tried ∙ b.tried;
+    }
+
+part_runs : (c : Config) (ds : List DeviceLine) (events : List Numbered) (s : State) (old mid after new : HostView) → Begun old mid after → PlayedInPart (start_of c) events (Some s) mid after → HoldsOfOutputs (HasSentFront s after new) 1 ds → new.handle 0 ≡ after.handle 0 → new.tried ≡ after.tried → RunsInPart c ds events old new
+part_runs c ds events s old mid after new b p sent replies tried =
+    let last : s ≡ p.last = p.machine_is in
+    let w = p.written in
+    record {
+      done = p.done;
+      left = p.left;
+      split = p.split;
+      replies = p.replies;
+      last = p.last;
+      follows = p.follows;
+      written = rw replies (okay ++ w.0, w.1, ap (λ l. okay ++ l) w.2 ∙ sym (append_assoc okay w.0 w.1), appends_more (old.handle 0).bytes (mid.handle 0).bytes (after.handle 0).bytes okay w.0 b.okay_written w.3);
+      sent = rw (← last) (fronts_sent s old mid after new ds b sent);
+      tried = tried ∙ b.tried;
+    }
+
+-- all that was played is a part of it
+as_part : (c : Config) (start : State) (events left : List Numbered) (machine : Option State) (old u : HostView) → Played c start events machine old u → PlayedInPart start (events ++ left) machine old u
+as_part c start events left machine old u p = record {
+  done = events;
+  left = left;
+  split = refl;
+  replies = p.replies;
+  last = p.last;
+  follows = p.follows;
+  machine_is = rw p.machine_is refl;
+  written = (texts p.replies, [], sym (append-nil (texts p.replies)), p.written);
+}
+
+-- the outputs were written whole
+all_filed : (st : Status) (p : Part) (before : ℕ) (lines : List (List ℕ)) (s : State) (old mid after new : HostView) (E : Type 0) (u : Unit {0}) → st ≢ status.NoMemory → Begun old mid after → Plays p.config before lines (start_of p.config) (Some s) mid after st → WritesFiles {E = E} s 1 p.devices after new (Ok u) → Runs p before lines old new st
+all_filed status.HostFault p before lines s old mid after new E u ne b q f = part_runs p.config p.devices (events_from before lines) s old mid after new b q.1 (whole_fronts s after new p.devices f.whole) (f.kept 0 (omega arith)) f.tried
+all_filed status.NoMemory p before lines s old mid after new E u ne b q f = absurd (ne refl)
+all_filed (status.NotBuilt l) p before lines s old mid after new E u ne b q f = record {
+  done = q.done;
+  next = q.next;
+  left = q.left;
+  split = q.split;
+  line = q.line;
+  unbuilt = q.unbuilt;
+  runs = all_runs p.config p.devices q.done s old mid after new b q.played f.whole (f.kept 0 (omega arith)) f.tried;
+}
+all_filed status.Done p before lines s old mid after new E u ne b q f = (q.0, all_runs p.config p.devices (events_from before lines) s old mid after new b q.1 f.whole (f.kept 0 (omega arith)) f.tried)
+all_filed status.Usage p before lines s old mid after new E u ne b q f = (q.0, all_runs p.config p.devices (events_from before lines) s old mid after new b q.1 f.whole (f.kept 0 (omega arith)) f.tried)
+all_filed (status.BadLine l) p before lines s old mid after new E u ne b q f = (q.0, all_runs p.config p.devices (events_from before lines) s old mid after new b q.1 f.whole (f.kept 0 (omega arith)) f.tried)
+all_filed status.TooLong p before lines s old mid after new E u ne b q f = (q.0, all_runs p.config p.devices (events_from before lines) s old mid after new b q.1 f.whole (f.kept 0 (omega arith)) f.tried)
+all_filed (status.BadBoot l) p before lines s old mid after new E u ne b q f = (q.0, all_runs p.config p.devices (events_from before lines) s old mid after new b q.1 f.whole (f.kept 0 (omega arith)) f.tried)
+
+whole_part : (c : Config) (start : State) (events : List Numbered) (s : State) (mid after : HostView) → Played c start events (Some s) mid after → PlayedInPart start events (Some s) mid after
+whole_part c start events s mid after q = subst (λ es. PlayedInPart start es (Some s) mid after) (append-nil events) (as_part c start events [] (Some s) mid after q)
+
+-- what was played, as a part of the script's events
+some_played : (st : Status) (c : Config) (before : ℕ) (lines : List (List ℕ)) (start s : State) (mid after : HostView) → st ≢ status.NoMemory → Plays c before lines start (Some s) mid after st → PlayedInPart start (events_from before lines) (Some s) mid after
+some_played status.HostFault c before lines start s mid after ne q = q.1
+some_played status.NoMemory c before lines start s mid after ne q = absurd (ne refl)
+some_played (status.NotBuilt l) c before lines start s mid after ne q = rw q.split (as_part c start q.done (q.next ∷ q.left) (Some s) mid after q.played)
+some_played status.Done c before lines start s mid after ne q = whole_part c start (events_from before lines) s mid after q.1
+some_played status.Usage c before lines start s mid after ne q = whole_part c start (events_from before lines) s mid after q.1
+some_played (status.BadLine l) c before lines start s mid after ne q = whole_part c start (events_from before lines) s mid after q.1
+some_played status.TooLong c before lines start s mid after ne q = whole_part c start (events_from before lines) s mid after q.1
+some_played (status.BadBoot l) c before lines start s mid after ne q = whole_part c start (events_from before lines) s mid after q.1
+
+-- an output couldn't be written
+some_filed : {E : Type 0} (st : Status) (p : Part) (before : ℕ) (lines : List (List ℕ)) (s : State) (old mid after new : HostView) (e : E) → st ≢ status.NoMemory → Begun old mid after → Plays p.config before lines (start_of p.config) (Some s) mid after st → WritesFiles s 1 p.devices after new (Err e) → Runs p before lines old new status.HostFault
+some_filed st p before lines s old mid after new e ne b q f = part_runs p.config p.devices (events_from before lines) s old mid after new b (some_played st p.config before lines (start_of p.config) s mid after ne q) f.front (f.kept 0 (omega arith)) f.tried
+
+-- memory ran out among the events
+no_memory : (p : Part) (before : ℕ) (lines : List (List ℕ)) (machine : Option State) (old mid after : HostView) → Begun old mid after → PlayedInPart (start_of p.config) (events_from before lines) machine mid after → Runs p before lines old after status.NoMemory
+no_memory p before lines machine old mid after b q =
+    let w = q.written in
+    inr (record {
+      done = q.done;
+      left = q.left;
+      split = q.split;
+      replies = q.replies;
+      last = q.last;
+      follows = q.follows;
+      written = (okay ++ w.0, w.1, ap (λ l. okay ++ l) w.2 ∙ sym (append_assoc okay w.0 w.1), appends_more (old.handle 0).bytes (mid.handle 0).bytes (after.handle 0).bytes okay w.0 b.okay_written w.3);
+      sent = outputs_all (HasSentFront q.last old after) 1 p.devices (λ n h later. let same : after.handle h ≡ old.handle h = b.outputs h later in rw same (front_none (old.handle h).bytes (sent_of q.last n)));
+      tried = b.tried;
+    })
+
+-- the same where the host may not tell the script
+
+pub files_whole : (E : Type 0) (st : Status) (p : Part) (text : Option (List ℕ)) (step : LineStep) (line : List ℕ) (before : ℕ) (start machine : Option State) (old mid after new : HostView) (u : Unit {0})
+    → st ≢ status.NoMemory → start ≡ Some (start_of p.config) → IsSome machine → Begun old mid after → PlaysFrom start text p.config step line before machine mid after st → IfSome machine (λ s. WritesFiles {E = E} s 1 p.devices after new (Ok u)) → RunsBooted p text step line before old new st
+files_whole E st p None step line before start machine old mid after new u ne is some b q f = tt
+files_whole E st p (Some text) step line before start None old mid after new u ne is some b q f = absurd (cc)
+files_whole E st p (Some text) step line before start (Some s) old mid after new u ne is some b q f = λ lines pending.
+    let played : PlaysFrom (Some (start_of p.config)) (Some text) p.config step line before (Some s) mid after st = rw is at q in
+    all_filed st p before lines s old mid after new E u ne b (played lines pending) f
+
+pub files_cut : {E : Type 0} (st : Status) (p : Part) (text : Option (List ℕ)) (step : LineStep) (line : List ℕ) (before : ℕ) (start machine : Option State) (old mid after new : HostView) (e : E)
+    → st ≢ status.NoMemory → start ≡ Some (start_of p.config) → IsSome machine → Begun old mid after → PlaysFrom start text p.config step line before machine mid after st → IfSome machine (λ s. WritesFiles s 1 p.devices after new (Err e)) → RunsBooted p text step line before old new status.HostFault
+files_cut st p None step line before start machine old mid after new e ne is some b q f = tt
+files_cut st p (Some text) step line before start None old mid after new e ne is some b q f = absurd (cc)
+files_cut st p (Some text) step line before start (Some s) old mid after new e ne is some b q f = λ lines pending.
+    let played : PlaysFrom (Some (start_of p.config)) (Some text) p.config step line before (Some s) mid after st = rw is at q in
+    some_filed st p before lines s old mid after new e ne b (played lines pending) f
+
+pub memory_out : (p : Part) (text : Option (List ℕ)) (step : LineStep) (line : List ℕ) (before : ℕ) (start machine : Option State) (old mid after : HostView)
+    → start ≡ Some (start_of p.config) → Begun old mid after → PlaysFrom start text p.config step line before machine mid after status.NoMemory → RunsBooted p text step line before old after status.NoMemory
+memory_out p None step line before start machine old mid after is b q = tt
+memory_out p (Some text) step line before start machine old mid after is b q = λ lines pending.
+    let played : PlaysFrom (Some (start_of p.config)) (Some text) p.config step line before machine mid after status.NoMemory = rw is at q in
+    no_memory p before lines machine old mid after b (played lines pending)
+
+-- `ok` was written in part, and no event was stepped
+okay_runs : {E : Type 0} (p : Part) (before : ℕ) (lines : List (List ℕ)) (old mid : HostView) (e : E) → WritesAll 0 old mid (Err e) okay → Runs p before lines old mid status.HostFault
+okay_runs p before lines old mid e w = record {
+  done = [];
+  left = events_from before lines;
+  split = refl;
+  replies = [];
+  last = start_of p.config;
+  follows = refl;
+  written = w.front;
+  sent = outputs_all (HasSentFront (start_of p.config) old mid) 1 p.devices (λ n h later. let same : mid.handle h ≡ old.handle h = w.only.others h (λ x. omega (arith, x, later)) in rw same (front_none (old.handle h).bytes (sent_of (start_of p.config) n)));
+  tried = w.only.tried;
+}
+
+pub okay_cut : {E : Type 0} (p : Part) (text : Option (List ℕ)) (step : LineStep) (line : List ℕ) (before : ℕ) (old mid : HostView) (e : E) → WritesAll 0 old mid (Err e) okay → RunsBooted p text step line before old mid status.HostFault
+okay_cut p None step line before old mid e w = tt
+okay_cut p (Some text) step line before old mid e w = λ lines pending. okay_runs p before lines old mid e w
+
+-- the counts of faults of a whole run
+pub failed_run : (E : Type 0) (st : Status) (old mid after new : HostView) (u : Unit {0}) → WritesAll {E = E} 0 old mid (Ok u) okay → Leaves st mid after → SameFaults after new → st ≡ status.HostFault → HandleRose old new
+failed_run E st old mid after new u w l f is =
+    let rose = l.cause is in
+    let first = only_faults 0 old mid w.only w.cause.kept in
+    (rose.0, rw (← first.handles rose.0, f.handles rose.0) rose.1)
+
+rose_later : (before start now : ℕ) → before ≤ start → Rose start now → Rose before now
+rose_later before start now low rose = omega (arith, low, rose)
+
+pub failed_file : (E : Type 0) (st : Status) (old mid after new : HostView) (u : Unit {0}) → WritesAll {E = E} 0 old mid (Ok u) okay → Leaves st mid after → HandleRose after new → HandleRose old new
+failed_file E st old mid after new u w l rose =
+    let first = only_faults 0 old mid w.only w.cause.kept in
+    (rose.0, rose_later (old.handle rose.0).faults (after.handle rose.0).faults (new.handle rose.0).faults (later_more old mid after (later_same old mid first) l.later rose.0) rose.1)
