@@ -1,0 +1,48 @@
+use Rattle.std.proofs.Common.{arith, ◌∙◌}
+use Rattle.std.proofs.lemmas.Grind.{common_steps}
+use Rattle.genie_device.proofs.Receiving.{landed_none, landed_more, landed_failed, landed_stopped, landed_all, risen, risen_most, runs_on, run_some}
+use Rattle.genie_device.proofs.receive.receive.Goals as goal
+
+pub runs-init : goal.runs-init
+runs-init g c = record {
+  so = landed_none _ _ _ _ _;
+  ready = c.requires.ready;
+  later = omega arith;
+  most = omega arith;
+  kept = g.met.L.Landing.reflexive _;
+}
+
+pub read-requires : goal.read-requires
+read-requires g c = c.runs.invariant.so.only.mode ∙ c.requires.reading
+
+pub returns-in-Err-clause-step : goal.returns-in-Err-clause-step
+returns-in-Err-clause-step g c =
+    let so = rw c.min-budget.ensures at c.runs.invariant.so in
+    let less = rw c.min-budget.ensures at c.runs-test.true in
+    landed_failed _ _ _ _ _ _ _ _ _ _ _ _ so c.in-Err.ensures.step less
+
+pub returns-in-Ok-eq0-clause-step : goal.returns-in-Ok-eq0-clause-step
+returns-in-Ok-eq0-clause-step g c =
+    let so = rw c.min-budget.ensures at c.runs.invariant.so in
+    let less = rw c.min-budget.ensures at c.runs-test.true in
+    let step = rw c.in-Ok-eq0.field-0-test at c.in-Ok-eq0.ensures.step in
+    rw c.stopped.ensures (landed_stopped _ _ _ _ _ _ _ _ _ _ _ so step less (run_some _ _ _ _ c.min-want.ensures (let h = c.min-want.array_long in let k = c.read.auto.into in grind (arith, common_steps)) c.runs-test.true))
+
+pub runs-preserved : goal.runs-preserved
+runs-preserved g c =
+    let bound = c.in-Ok.ensures.bound in
+    let content = c.land.ensures.content in
+    let most = c.land.ensures.most in
+    record {
+      so = landed_more _ _ _ _ _ _ _ _ _ _ _ _ c.runs.invariant.so c.in-Ok.ensures.step bound.0 (runs_on _ _ _ _ _ c.min-want.ensures (let h = c.min-want.array_long in let k = c.read.auto.into in grind (arith, common_steps)) bound.0 c.runs-test.true) content;
+      ready = c.land.ensures.ready;
+      later = risen _ _ _ c.runs.invariant.later c.land.ensures.later;
+      most = risen_most _ _ _ _ _ _ c.runs.invariant.most most bound.1;
+      kept = g.met.L.Landing.transitive _ _ _ c.runs.invariant.kept c.land.ensures.kept;
+    }
+
+pub returns-clause-step : goal.returns-clause-step
+returns-clause-step g c =
+    let so = rw c.min-budget.ensures at c.runs.invariant.so in
+    let all = rw c.min-budget.ensures at c.runs-test.false in
+    rw c.used_up.ensures (landed_all _ _ _ _ _ _ _ _ _ so all)

@@ -1,0 +1,7 @@
+pub mod Buffers
+pub mod Device
+pub mod Gathering
+pub mod Kept
+pub mod Moving
+pub mod Receiving
+pub mod Sending
