@@ -2,6 +2,7 @@ pub mod Gathering
 pub mod HeaderSizes
 pub mod Receiving
 pub mod Filling
+pub mod GoingOn
 pub mod Table
 pub mod Keeping
 pub mod Sending

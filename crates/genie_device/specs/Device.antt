@@ -120,6 +120,11 @@ landing_after (Some buffer) at taken content = content
 abbrev pub finished : DeviceView → DeviceView
 finished d = record d { present = None; buffers = arrived (buffer_of d.present) d.buffers }
 
+-- no step changes what a device is
+pub record KeepsConfig (before after : DeviceView) : Type 0 where
+  pub config : after.config ≡ before.config
+  pub limit : after.limit ≡ before.limit
+
 -- A step of a header.
 pub record ReceivesHeader (n : ℕ) (old new : HostView) (before after : DeviceView) (moved : ℕ) (end : HeaderEnd) : Type 0 where
   pub taken : List ℕ

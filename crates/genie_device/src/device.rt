@@ -4,9 +4,10 @@ ghost use Rattle.genie_base.specs.Configs.{most};
 ghost use Rattle.genie_base.specs.Counts.{is_page_size};
 ghost use Rattle.genie_base.specs.Headers.{is_whole_header};
 ghost use Rattle.genie_base.specs.Records.{header_len};
+ghost use Rattle.genie_host.specs.Host.{OnlyHandle};
 ghost use Rattle.genie_device.specs.Buffers.{Free, state_at, is_arrived, bytes_in, with_state};
 ghost use Rattle.genie_device.specs.Kept.{IsAllowed, AreBuffers};
-ghost use Rattle.genie_device.specs.Device.{IsReading, IsWriting, handle_of, header_of, moved_of, buffer_of, is_outboard, is_full, buffer_count, idle_device, finished, ReceivesHeader, ReceivesBody, stages, StagesPayload, SendsRecord};
+ghost use Rattle.genie_device.specs.Device.{IsReading, IsWriting, handle_of, header_of, moved_of, buffer_of, is_outboard, is_full, buffer_count, idle_device, finished, ReceivesHeader, ReceivesBody, stages, StagesPayload, SendsRecord, KeepsConfig};
 
 use crate::buffer::Buffer;
 use crate::buffers::{arrived_count, begin_first, end_filling, free_buffers};
@@ -168,7 +169,8 @@ impl Device {
         requires some { 1 ≤ n }
         requires free { is_full self.old ≡ false }
         requires reading { IsReading self.old.config.input (H.view host.old) }
-        ensures { ReceivesHeader n (H.view host.old) (H.view host.new) self.old self.new result.moved result.end }
+        ensures step { ReceivesHeader n (H.view host.old) (H.view host.new) self.old self.new result.moved result.end }
+        ensures kept { KeepsConfig self.old self.new }
     {
         let handle = self.input();
         let step = gather(host, handle, &mut self.gathered, self.limit, n);
@@ -189,6 +191,71 @@ impl Device {
             }
         }
         step
+    }
+
+    /// Moves at most `n` bytes of the present datagram's payload to the landing, or on an outboard device to the buffer
+    /// that it fills.
+    pub fn recv_body<H: Host, L: Landing>(
+        &mut self,
+        host: &mut H,
+        landing: &mut L,
+        n: u32,
+    ) -> BodyStep
+        requires present { IsSome self.old.present }
+        requires reading { IsReading self.old.config.input (H.view host.old) }
+        requires ready { L.is_ready landing.old }
+        requires room { L.count landing.old + n < 2 ^ 64 }
+        ensures step { ReceivesBody n (H.view host.old) (H.view host.new) self.old self.new (L.content landing.old) (L.content landing.new) result.moved result.end }
+        ensures kept { KeepsConfig self.old self.new }
+        ensures ready { L.is_ready landing.new }
+        ensures later { L.count landing.old ≤ L.count landing.new }
+        ensures most { L.count landing.new ≤ L.count landing.old + result.moved }
+        ensures landing { L.kept landing.old landing.new }
+    {
+        let handle = self.input();
+        let Some(present) = self.present else {
+            unreachable!()
+        };
+        let step = move_payload(host, handle, landing, &mut self.buffers, &present, n);
+        self.present = Some(Present {
+            moved: present.moved + step.moved,
+            ..present
+        });
+        step
+    }
+
+    /// Ends the present datagram. On an outboard device its buffer, whose number is the answer, has arrived; on the
+    /// other kinds the answer is `None`.
+    pub fn finish(&mut self) -> Option<u32>
+        requires { IsSome self.old.present }
+        ensures place { result ≡ buffer_of self.old.present }
+        ensures kinds { is_some result ≡ is_outboard self.old.config.kind }
+        ensures device { self.new ≡ finished self.old }
+        ensures arrived { IfSome result (λ k. is_arrived (state_at self.new.buffers k) ≡ true) }
+    {
+        let Some(present) = self.present else {
+            unreachable!()
+        };
+        end_filling(&mut self.buffers, present.buffer);
+        self.present = None;
+        present.buffer
+    }
+
+    /// Lends the bytes of an arrived buffer.
+    pub fn arrived(&self, buffer: u32) -> &[u8]
+        requires { is_arrived (state_at self.now.buffers buffer) ≡ true }
+        ensures { result.now ≡ bytes_in (state_at self.now.buffers buffer) }
+    {
+        self.buffers[buffer as usize].bytes()
+    }
+
+    /// Makes an arrived buffer free.
+    pub fn release(&mut self, buffer: u32)
+        requires { is_arrived (state_at self.old.buffers buffer) ≡ true }
+        ensures { self.new ≡ record self.old { buffers = with_state Free buffer self.old.buffers } }
+    {
+        let arrived = &mut self.buffers[buffer as usize];
+        arrived.release();
     }
 
     // The handle of its output.
@@ -223,6 +290,8 @@ impl Device {
         ensures staged { result.staged ≡ stages self.old.config.kind self.old.staged header.now.len }
         ensures stages { result.staged ≡ true → StagesPayload n (H.view host.old) (H.view host.new) self.old self.new (O.payload from.now) result }
         ensures sends { result.staged ≡ false → SendsRecord n (H.view host.old) (H.view host.new) self.old self.new header.now (O.payload from.now) result }
+        ensures host { OnlyHandle (handle_of self.old.config.output) (H.view host.old) (H.view host.new) }
+        ensures kept { KeepsConfig self.old self.new }
     {
         let is_outboard = self.config.kind == Kind::Outboard;
         let staged = self.staged.len() as u32;
@@ -261,67 +330,7 @@ impl Device {
             faulted: step.faulted,
         }
     }
-
-    /// Moves at most `n` bytes of the present datagram's payload to the landing, or on an outboard device to the buffer
-    /// that it fills.
-    pub fn recv_body<H: Host, L: Landing>(
-        &mut self,
-        host: &mut H,
-        landing: &mut L,
-        n: u32,
-    ) -> BodyStep
-        requires present { IsSome self.old.present }
-        requires reading { IsReading self.old.config.input (H.view host.old) }
-        requires ready { L.is_ready landing.old }
-        requires room { L.count landing.old + n < 2 ^ 64 }
-        ensures step { ReceivesBody n (H.view host.old) (H.view host.new) self.old self.new (L.content landing.old) (L.content landing.new) result.moved result.end }
-        ensures ready { L.is_ready landing.new }
-        ensures later { L.count landing.old ≤ L.count landing.new }
-        ensures most { L.count landing.new ≤ L.count landing.old + result.moved }
-        ensures kept { L.kept landing.old landing.new }
-    {
-        let handle = self.input();
-        let Some(present) = self.present else {
-            unreachable!()
-        };
-        let step = move_payload(host, handle, landing, &mut self.buffers, &present, n);
-        self.present = Some(Present {
-            moved: present.moved + step.moved,
-            ..present
-        });
-        step
-    }
-
-    /// Ends the present datagram. On an outboard device its buffer, whose number is the answer, has arrived; on the
-    /// other kinds the answer is `None`.
-    pub fn finish(&mut self) -> Option<u32>
-        requires { IsSome self.old.present }
-        ensures place { result ≡ buffer_of self.old.present }
-        ensures kinds { is_some result ≡ is_outboard self.old.config.kind }
-        ensures device { self.new ≡ finished self.old }
-    {
-        let Some(present) = self.present else {
-            unreachable!()
-        };
-        end_filling(&mut self.buffers, present.buffer);
-        self.present = None;
-        present.buffer
-    }
-
-    /// Lends the bytes of an arrived buffer.
-    pub fn arrived(&self, buffer: u32) -> &[u8]
-        requires { is_arrived (state_at self.now.buffers buffer) ≡ true }
-        ensures { result.now ≡ bytes_in (state_at self.now.buffers buffer) }
-    {
-        self.buffers[buffer as usize].bytes()
-    }
-
-    /// Makes an arrived buffer free.
-    pub fn release(&mut self, buffer: u32)
-        requires { is_arrived (state_at self.old.buffers buffer) ≡ true }
-        ensures { self.new ≡ record self.old { buffers = with_state Free buffer self.old.buffers } }
-    {
-        let arrived = &mut self.buffers[buffer as usize];
-        arrived.release();
-    }
 }
+
+#[cfg(test)]
+mod tests;

@@ -6,6 +6,7 @@ mod buffers;
 pub mod device;
 mod gather;
 pub mod landing;
+pub mod laws;
 mod memory;
 mod move_payload;
 pub mod outgoing;
