@@ -69,6 +69,8 @@ gathered_failed handle limit n old u w before mid buffer moved e m short r less 
     let held : mid ≡ before ++ m.taken = m.held in
     let unfilled : is_whole_header (before ++ m.taken) ≡ false = rw held at short in
     let fits = not_whole (before ++ m.taken) unfilled in
+    let bytes = Consumes-kept (old.handle handle).bytes (u.handle handle).bytes (w.handle handle).bytes m.taken m.bytes r.bytes in
+    let size : length m.taken ≡ moved = m.size in
     record {
       taken = m.taken;
       takes = record {
@@ -76,10 +78,10 @@ gathered_failed handle limit n old u w before mid buffer moved e m short r less 
         within = m.within;
         fits = omega arith;
         only = only_trans handle old u w m.only r.only;
-        bytes = Consumes-kept (old.handle handle).bytes (u.handle handle).bytes (w.handle handle).bytes m.taken m.bytes r.bytes;
+        bytes = bytes;
         ends = (unfilled, less);
         cause = rw m.count at r.cause.failed;
-        exact = tt;
+        exact = rw size at (told_short (length m.taken) before m.taken (old.handle handle).bytes (w.handle handle).bytes unfilled (omega arith) (inl refl) bytes);
       };
       held = m.held;
     }

@@ -61,20 +61,23 @@ told left n taken (Some rest) (Some after) within fits (inr end) c = rw (c, end)
 pub landed_failed : {E : Type 0} (handle at n left : ℕ) (old u w : HostView) (before mid buffer : List ℕ) (moved : ℕ) (e : E)
     → Landed handle at (min n left) old u before mid moved → Reads {E = E} handle u w (Err e) buffer → moved < min n left
     → Lands handle at left n old w before mid moved Faulted
-landed_failed handle at n left old u w before mid buffer moved e m r less = record {
-  taken = m.taken;
-  takes = record {
-    size = m.size;
-    within = omega arith;
-    fits = omega arith;
-    only = only_trans handle old u w m.only r.only;
-    bytes = Consumes-kept (old.handle handle).bytes (u.handle handle).bytes (w.handle handle).bytes m.taken m.bytes r.bytes;
-    ends = (omega arith, omega arith);
-    cause = rw m.count at r.cause.failed;
-    exact = tt;
-  };
-  landed = m.landed;
-}
+landed_failed handle at n left old u w before mid buffer moved e m r less =
+    let bytes = Consumes-kept (old.handle handle).bytes (u.handle handle).bytes (w.handle handle).bytes m.taken m.bytes r.bytes in
+    let size : length m.taken ≡ moved = m.size in
+    record {
+      taken = m.taken;
+      takes = record {
+        size = m.size;
+        within = omega arith;
+        fits = omega arith;
+        only = only_trans handle old u w m.only r.only;
+        bytes = bytes;
+        ends = (omega arith, omega arith);
+        cause = rw m.count at r.cause.failed;
+        exact = rw size at (told left (length m.taken) m.taken (old.handle handle).bytes (w.handle handle).bytes (omega arith) (omega arith) (inl (omega arith)) bytes);
+      };
+      landed = m.landed;
+    }
 
 consumes_none : (a b c : Option (List ℕ)) (xs : List ℕ) → Consumes a b xs → Consumes b c [] → Consumes a c xs
 consumes_none a b c xs p q = subst (Consumes a c) (append-nil xs) (Consumes-trans a b c xs [] p q)

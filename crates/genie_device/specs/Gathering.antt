@@ -1,5 +1,5 @@
 -- What a step of a header does to the host and to the header bytes gathered.
-use Rattle.std.specs.Prelude.{◌≡◌, ◌⊎◌, ℕ, ◌<◌, ◌≤◌, List, ◌++◌, length, false, Option, IfSome, if◌then◌else◌, ⊤}
+use Rattle.std.specs.Prelude.{◌≡◌, ◌⊎◌, ℕ, ◌<◌, ◌≤◌, List, ◌++◌, length, false, Option, IfSome, if◌then◌else◌}
 use Rattle.std.specs.Io.KnownBytes.{Consumes, IsAtEnd}
 use Rattle.genie_base.specs.Causes.{Rose}
 use Rattle.genie_base.specs.Headers.{size_of_header, is_whole_header, is_valid_header, header_taken}
@@ -26,12 +26,13 @@ HeaderCause (Whole header) before now = now ≡ before
 HeaderCause Bad before now = now ≡ before
 HeaderCause Faulted before now = Rose before now
 
--- where nothing failed and the input is told, it moves as many bytes as the budget, the rest and the header allow
+-- where the input is told, it moves as many bytes as the budget, the rest and the header allow; one that failed, as many
+-- as a step whose budget was just those
 abbrev pub TakesAll : HeaderEnd → (n : ℕ) → (moved : ℕ) → (gathered : List ℕ) → (rest : Option (List ℕ)) → Type 0
 TakesAll More n moved gathered rest = IfSome rest (λ bytes. moved ≡ header_taken n gathered bytes)
 TakesAll (Whole header) n moved gathered rest = IfSome rest (λ bytes. moved ≡ header_taken n gathered bytes)
 TakesAll Bad n moved gathered rest = IfSome rest (λ bytes. moved ≡ header_taken n gathered bytes)
-TakesAll Faulted n moved gathered rest = ⊤
+TakesAll Faulted n moved gathered rest = IfSome rest (λ bytes. moved ≡ header_taken moved gathered bytes)
 
 -- header bytes are taken from a handle, and none past the header's last one
 pub record TakesHeader (handle limit n : ℕ) (old new : HostView) (gathered taken : List ℕ) (moved : ℕ) (end : HeaderEnd) : Type 0 where

@@ -1,5 +1,5 @@
 -- What a step of a payload does to the host and to the landing.
-use Rattle.std.specs.Prelude.{◌≡◌, ◌⊎◌, ℕ, ◌<◌, ◌≤◌, ◌==◌, if◌then◌else◌, List, length, Option, IfSome, ⊤}
+use Rattle.std.specs.Prelude.{◌≡◌, ◌⊎◌, ℕ, ◌<◌, ◌≤◌, ◌==◌, if◌then◌else◌, List, length, Option, IfSome}
 use Rattle.std.specs.Io.KnownBytes.{Consumes, IsAtEnd}
 use Rattle.genie_base.specs.Bytes.{overlaid}
 use Rattle.genie_base.specs.Causes.{Rose}
@@ -22,12 +22,13 @@ BodyCause Whole before now = now ≡ before
 BodyCause Truncated before now = now ≡ before
 BodyCause Faulted before now = Rose before now
 
--- where nothing failed and the input is told, it moves as many bytes as the budget, the payload and the rest allow
+-- where the input is told, it moves as many bytes as the budget, the payload and the rest allow; one that failed, as
+-- many as a step whose budget was just those
 abbrev pub TakesAll : BodyEnd → (left : ℕ) → (n : ℕ) → (moved : ℕ) → (rest : Option (List ℕ)) → Type 0
 TakesAll More left n moved rest = IfSome rest (λ bytes. moved ≡ payload_taken n left bytes)
 TakesAll Whole left n moved rest = IfSome rest (λ bytes. moved ≡ payload_taken n left bytes)
 TakesAll Truncated left n moved rest = IfSome rest (λ bytes. moved ≡ payload_taken n left bytes)
-TakesAll Faulted left n moved rest = ⊤
+TakesAll Faulted left n moved rest = IfSome rest (λ bytes. moved ≡ payload_taken moved left bytes)
 
 -- payload bytes are taken from a handle, and none past the payload's last one
 pub record TakesPayload (handle left n : ℕ) (old new : HostView) (taken : List ℕ) (moved : ℕ) (end : BodyEnd) : Type 0 where

@@ -62,8 +62,9 @@ impl Model for Device {
 }
 
 impl Device {
-    /// A device that has gathered, staged and sent nothing, with pages of `page` bytes. An outboard device has memory for
-    /// a staged payload and for each of its buffers.
+    /// A device that has gathered, staged and sent nothing, with pages of `page` bytes. A datagram has at most 16 pages
+    /// on a pooled device, else 64. An outboard device has memory for one staged payload and `config.depth` buffers, each
+    /// for the longest datagram.
     pub fn new(alloc: Global, config: &DeviceConfig, page: u32) -> Result<Device, NoMemory>
         requires { IsTrue (is_page_size page) }
         ensures { IfOk result (λ device. device ≡ idle_device config.now page) }

@@ -112,8 +112,12 @@ fn header_step<H: Host>(
     requires reading { IsReading device.old.config.input (H.view host.old) }
     ensures { IsReading device.new.config.input (H.view host.new) }
 {
-    if device.is_bad() || device.is_full() {
+    if device.is_bad() {
         note(log, b"bad");
+        return false;
+    }
+    if device.is_full() {
+        note(log, b"full");
         return false;
     }
     let step = device.recv_header(host, n);
