@@ -1,3 +1,4 @@
 pub mod Lending
 pub mod Processes
 pub mod Spaces
+pub mod Translations

@@ -3,5 +3,7 @@
 
 mod space;
 pub mod spaces;
+pub mod translation;
 
 pub use crate::spaces::{PROCESSES, Spaces};
+pub use crate::translation::Translation;

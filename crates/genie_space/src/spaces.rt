@@ -1,9 +1,14 @@
 //! The address spaces of the processes.
-ghost use Rattle.std.specs.Prelude.{◌≡◌, ◌+◌, ◌<◌, ◌≤◌, [], IfOk, IsTrue, None, Some, false, length};
+ghost use Rattle.std.specs.Prelude.{◌≡◌, ◌+◌, ◌<◌, ◌≤◌, [], All, IfOk, IsTrue, None, Some, false, length};
+ghost use Rattle.genie_base.specs.Regions.{reach};
+ghost use Rattle.genie_region.specs.Layouts.{extent};
 ghost use Rattle.genie_space.specs.Spaces.{AddressSpaces, is_alive, no_process, regions_of, set_process};
+ghost use Rattle.genie_space.specs.Translations.{IsBacked, translation};
 
 use crate::space::Space;
+use crate::translation::{Translation, lead_to};
 use genie_base::{NoMemory, PageSize};
+use genie_object::Objects;
 use genie_region::Regions;
 use std::alloc::Global;
 use std::marker::Model;
@@ -103,6 +108,19 @@ impl Spaces {
         ensures value { result.now ≡ regions_of pid self.old }
     {
         &mut self.spaces[pid as usize].regions
+    }
+
+    /// Where an address of a process leads: to the page of the region that an access to its byte reaches, or nowhere
+    /// exactly where such an access reaches none.
+    pub fn translate(&self, objects: &Objects, pid: u32, addr: u32) -> Translation
+        requires alive { IsTrue (is_alive pid self.now) }
+        requires backed { All (IsBacked objects.now) (regions_of pid self.now) }
+        ensures { result ≡ translation objects.now self.now.page addr (reach extent self.now.page addr 1 (regions_of pid self.now)) }
+    {
+        match self.regions(pid).find(addr, 1, self.page) {
+            Some(region) => lead_to(objects, &region, addr, self.page),
+            None => Translation::Nowhere,
+        }
     }
 }
 
