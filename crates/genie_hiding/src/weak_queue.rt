@@ -94,4 +94,21 @@ mod tests {
             assert_eq!(rt; queue.at(i).map(|id| id.0), want, "at {i}");
         }
     }
+    /// Pushes 32 regions, numbered from 0.
+    fn push_all(queue: &mut WeakQueue)
+        requires { queue.old ≡ [] }
+    {
+        for id in 0..32 {
+            queue.push(RegionId(id));
+        }
+    }
+
+    #[test]
+    fn the_most_regions(rt: HostRuntime) {
+        let mut queue = WeakQueue::new();
+        push_all(&mut queue);
+        for (i, want) in [(0, Some(0)), (15, Some(15)), (31, Some(31)), (32, None)] {
+            assert_eq!(rt; queue.at(i).map(|id| id.0), want, "at {i}");
+        }
+    }
 }
