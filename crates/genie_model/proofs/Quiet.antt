@@ -9,13 +9,15 @@ use Rattle.genie_base.specs.declared.reply.Mark.TheVariants as mark
 use Rattle.genie_base.specs.declared.reply.Reply.TheVariants as reply
 use Rattle.genie_model.specs.Flat.{sent_by, sent_of}
 use Rattle.genie_model.specs.declared.phase.Phase.TheVariants.{Moving}
-use Rattle.genie_model.specs.State.{State, Transfer, Device, Datagram, Fate, Matched, Skipped, Gathering}
+use Rattle.genie_model.specs.State.{State, Transfer, Device, Datagram}
+use Rattle.genie_model.specs.declared.datagram.Fate.{Fate}
+use Rattle.genie_model.specs.declared.datagram.Fate.TheVariants.{Matched, Skipped, Gathering}
 use Rattle.genie_model.specs.Tables.{entry}
 use Rattle.genie_model.specs.Pending.{is_early, pending, first_posted}
 use Rattle.genie_model.specs.Regions.{put}
 use Rattle.genie_model.specs.Space.{Outcome}
 use Rattle.genie_model.specs.Sending.{change_device}
-use Rattle.genie_model.specs.Receiving.{receiving, set_device, is_busy, with_phase, change_transfer, deliver, complete, fitting, landed, land_in, land, after_bytes, go_on, take_payload, datagram, skipped, match_header, begin_datagram, read_header, take_header, receive_record, receive, recv}
+use Rattle.genie_model.specs.Receiving.{receiving, set_device, is_busy, with_phase, change_transfer, deliver, complete, fitting, landing, landed, land_in, land, after_bytes, go_on, take_payload, datagram, skipped, match_header, begin_datagram, read_header, take_header, receive_record, receive, recv}
 
 -- nothing more was sent, and no call accepted
 pub record Keeps (s t : State) : Type 0 where
@@ -50,14 +52,14 @@ table_sent v (x ∷ xs) (suc d) (suc n) = table_sent v xs d n
 set_keeps : (s : State) (d : ℕ) (v : Device) → Keeps s (set_device s d v)
 set_keeps s d v = record { sent = λ n. table_sent v s.devices d n; next = refl }
 
-deliver_quiet : (s : State) (g : Datagram) (truncated : Bool) (bytes : List ℕ) (k : ℕ) (o : Option Transfer) → IsQuiet s (deliver s g truncated bytes k o)
-deliver_quiet s g truncated bytes k None = record { keeps = keeps_same s; shows = refl }
-deliver_quiet s g truncated bytes k (Some t) = record { keeps = record { sent = λ n. refl; next = refl }; shows = refl }
+deliver_quiet : (s : State) (g : Datagram) (truncated : Bool) (k : ℕ) (o : Option ℕ) → IsQuiet s (deliver s g truncated k o)
+deliver_quiet s g truncated k None = record { keeps = keeps_same s; shows = refl }
+deliver_quiet s g truncated k (Some t) = record { keeps = record { sent = λ n. refl; next = refl }; shows = refl }
 
 complete_quiet : (s : State) (d : ℕ) (g : Datagram) (truncated : Bool) (k : ℕ) (fate : Fate) → IsQuiet s (complete s d g truncated k fate)
 complete_quiet s d g truncated k Skipped = record { keeps = keeps_same s; shows = refl }
 complete_quiet s d g truncated k (Matched t) = record { keeps = record { sent = λ n. refl; next = refl }; shows = refl }
-complete_quiet s d g truncated k (Gathering bytes) = deliver_quiet s g truncated bytes k (first_posted s d g.port g.flow)
+complete_quiet s d g truncated k Gathering = deliver_quiet s g truncated k (first_posted s d g.port g.flow)
 
 go_on_quiet : (s : State) (d : ℕ) (v : Device) (g : Datagram) (k : ℕ) → IsQuiet s (go_on s d v g k)
 go_on_quiet s d v g k =
@@ -66,21 +68,17 @@ go_on_quiet s d v g k =
     choice s (k == 0) _ _ (from s ended _ (set_keeps s d over) (complete_quiet ended d g true 0 g.fate))
     (choice s (g.moved == g.len) _ _ (from s ended _ (set_keeps s d over) (complete_quiet ended d g false k g.fate)) (record { keeps = set_keeps s d (record v { present = Some g }); shows = refl }))
 
-state_choice : (s : State) (b : Bool) (x y : State) → Keeps s x → Keeps s y → Keeps s (if b then x else y)
-state_choice s true x y p q = p
-state_choice s false x y p q = q
-
 landed_keeps : (s : State) (t : Transfer) (x : ℕ) (bytes : List ℕ) (r : Option ℕ) → Keeps s (landed s t x bytes r)
 landed_keeps s t x bytes None = keeps_same s
-landed_keeps s t x bytes (Some r) = state_choice s (is_strong t.class) s (put s r (t.offset + x) (fitting t x bytes)) (keeps_same s) (record { sent = λ n. refl; next = refl })
+landed_keeps s t x bytes (Some r) = record { sent = λ n. refl; next = refl }
 
 land_in_keeps : (s : State) (x : ℕ) (bytes : List ℕ) (o : Option Transfer) → Keeps s (land_in s x bytes o)
 land_in_keeps s x bytes None = keeps_same s
-land_in_keeps s x bytes (Some t) = let k = landed_keeps s t x bytes t.region in record { sent = k.sent; next = k.next }
+land_in_keeps s x bytes (Some t) = let k = landed_keeps s t x bytes (landing t) in record { sent = k.sent; next = k.next }
 
 land_keeps : (s : State) (x : ℕ) (bytes : List ℕ) (fate : Fate) → Keeps s (land s x bytes fate)
 land_keeps s x bytes Skipped = keeps_same s
-land_keeps s x bytes (Gathering before) = keeps_same s
+land_keeps s x bytes Gathering = keeps_same s
 land_keeps s x bytes (Matched t) = land_in_keeps s x bytes (pending s t)
 
 payload_quiet : (s : State) (d : ℕ) (v : Device) (g : Datagram) (h b : ℕ) → IsQuiet s (take_payload s d v g h b)
@@ -89,14 +87,14 @@ payload_quiet s d v g h b =
     let after : State = land s g.moved bytes g.fate in
     from s after _ (land_keeps s g.moved bytes g.fate) (go_on_quiet after d (record v { rest = drop b v.rest }) (after_bytes bytes g) (h + b))
 
-match_quiet : (s : State) (d left : ℕ) (v : Device) (header : List ℕ) (h : ℕ) (o : Option Transfer) → IsQuiet s (match_header s d left v header h o)
+match_quiet : (s : State) (d left : ℕ) (v : Device) (header : List ℕ) (h : ℕ) (o : Option ℕ) → IsQuiet s (match_header s d left v header h o)
 match_quiet s d left v header h None = record { keeps = set_keeps s d (record v { present = skipped header }); shows = refl }
 match_quiet s d left v header h (Some t) =
-    let moving : State = change_transfer s t.number (with_phase Moving) in
-    from s moving _ (record { sent = λ n. refl; next = refl }) (payload_quiet moving d v (datagram header (Matched t.number)) h _)
+    let moving : State = change_transfer s t (with_phase Moving) in
+    from s moving _ (record { sent = λ n. refl; next = refl }) (payload_quiet moving d v (datagram header (Matched t)) h _)
 
 begin_quiet : (s : State) (d left : ℕ) (v : Device) (header : List ℕ) (h : ℕ) → IsQuiet s (begin_datagram s d left v header h)
-begin_quiet s d left v header h = choice s (is_early v.kind) _ _ (match_quiet s d left v header h (first_posted s d (port_in header) (flow_in header))) (payload_quiet s d v (datagram header (Gathering [])) h _)
+begin_quiet s d left v header h = choice s (is_early v.kind) _ _ (match_quiet s d left v header h (first_posted s d (port_in header) (flow_in header))) (payload_quiet s d v (datagram header Gathering) h _)
 
 read_quiet : (s : State) (d left : ℕ) (v : Device) (header : List ℕ) (h : ℕ) → IsQuiet s (read_header s d left v header h)
 read_quiet s d left v header h = choice s (is_valid_header (most v.kind s.config.page) header) _ _ (begin_quiet s d left (record v { header = [] }) header h) (record { keeps = set_keeps s d (record v { header = []; is_bad = true }); shows = refl })

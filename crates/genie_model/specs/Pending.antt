@@ -1,5 +1,6 @@
 -- The pending transfers: those of the state, in the order of their numbers.
 use Rattle.std.specs.Prelude.{ℕ, ◌+◌, Bool, true, false, not, ◌&&◌, ◌==◌, nat_le, nat_lt, [], ◌∷◌, ◌++◌, find, sum_by, count_by, Option, None, Some, unwrap_or}
+use Rattle.std.specs.Option.{option_map}
 use Rattle.genie_base.specs.Counts.{span, cost}
 use Rattle.genie_base.specs.Posted.{Address, meets}
 use Rattle.genie_base.specs.Transfers.{is_strong}
@@ -93,9 +94,9 @@ posted_for t = record { device = t.device; port = t.port; flow = t.flow }
 abbrev pub awaits : ℕ → ℕ → Option ℕ → Transfer → Bool
 awaits d port flow t = is_posted t.phase && meets d port flow (posted_for t)
 
--- the first one of them
-abbrev pub first_posted : State → ℕ → ℕ → Option ℕ → Option Transfer
-first_posted s d port flow = find (awaits d port flow) s.transfers
+-- the number of the first one of them
+abbrev pub first_posted : State → ℕ → ℕ → Option ℕ → Option ℕ
+first_posted s d port flow = option_map (λ (t : Transfer). t.number) (find (awaits d port flow) s.transfers)
 
 abbrev pub has_arrived : ℕ → Transfer → Bool
 has_arrived d t = is_inward t.direction && is_ready t.phase && (t.device == d)

@@ -1,5 +1,5 @@
 -- The receive step.
-use Rattle.std.specs.Prelude.{ℕ, ◌+◌, ◌-◌, ◌==◌, Bool, true, false, not, ◌&&◌, ◌||◌, nat_lt, min, List, [], ◌∷◌, ◌++◌, length, take, drop, slice_set, Option, None, Some, if◌then◌else◌}
+use Rattle.std.specs.Prelude.{ℕ, ◌+◌, ◌-◌, ◌==◌, Bool, true, false, not, ◌&&◌, ◌||◌, nat_le, nat_lt, min, List, [], ◌∷◌, ◌++◌, length, take, drop, slice_set, Option, None, Some, if◌then◌else◌}
 use Rattle.genie_base.specs.Configs.{most}
 use Rattle.genie_base.specs.Headers.{header_taken, payload_taken, is_whole_header, is_valid_header, port_in, len_in, flow_in}
 use Rattle.genie_base.specs.Transfers.{is_strong}
@@ -9,9 +9,11 @@ use Rattle.genie_base.specs.declared.reply.Reply.{Reply}
 use Rattle.genie_base.specs.declared.reply.Reply.TheVariants as reply
 use Rattle.genie_model.specs.declared.phase.Phase.TheVariants.{Moving, Ready}
 use Rattle.genie_model.specs.declared.phase.Phase.{Phase}
-use Rattle.genie_model.specs.State.{State, Transfer, Device, Datagram, Fate, Matched, Skipped, Gathering}
+use Rattle.genie_model.specs.State.{State, Transfer, Device, Datagram}
+use Rattle.genie_model.specs.declared.datagram.Fate.{Fate}
+use Rattle.genie_model.specs.declared.datagram.Fate.TheVariants.{Matched, Skipped, Gathering}
 use Rattle.genie_model.specs.Tables.{change, entry}
-use Rattle.genie_model.specs.Regions.{put}
+use Rattle.genie_model.specs.Regions.{is_here, put}
 use Rattle.genie_model.specs.Pending.{is_early, is_numbered, pending, first_posted, arrived}
 use Rattle.genie_model.specs.Space.{Outcome}
 use Rattle.genie_model.specs.Sending.{change_device}
@@ -57,15 +59,15 @@ abbrev pub change_transfer : State → ℕ → (Transfer → Transfer) → State
 change_transfer s k f = record s { transfers = change (is_numbered k) f s.transfers }
 
 -- the end of a gathered datagram at the input that it meets, or the drop
-abbrev pub deliver : State → Datagram → Bool → List ℕ → ℕ → Option Transfer → Outcome
-deliver s g truncated bytes k None = (s, reply.Dropped g.port g.flow g.len)
-deliver s g truncated bytes k (Some t) = (change_transfer s t.number (gathered truncated g.len bytes), reply.Got k)
+abbrev pub deliver : State → Datagram → Bool → ℕ → Option ℕ → Outcome
+deliver s g truncated k None = (s, reply.Dropped g.port g.flow g.len)
+deliver s g truncated k (Some t) = (change_transfer s t (gathered truncated g.len g.bytes), reply.Got k)
 
 -- the datagram ends, and the step, which moved k bytes, with it
 abbrev pub complete : State → ℕ → Datagram → Bool → ℕ → Fate → Outcome
 complete s d g truncated k Skipped = (s, reply.Got k)
 complete s d g truncated k (Matched t) = (change_transfer s t (arrived_whole truncated g.len), reply.Got k)
-complete s d g truncated k (Gathering bytes) = deliver s g truncated bytes k (first_posted s d g.port g.flow)
+complete s d g truncated k Gathering = deliver s g truncated k (first_posted s d g.port g.flow)
 
 -- of the payload bytes from the datagram's place x on those that fit the buffer of t
 abbrev pub fitting : Transfer → ℕ → List ℕ → List ℕ
@@ -75,28 +77,32 @@ fitting t x bytes = take (t.len - x) bytes
 abbrev pub after_receiving : ℕ → List ℕ → Transfer → Transfer
 after_receiving x bytes t = record t { payload = if is_strong t.class then t.payload ++ fitting t x bytes else t.payload; stored = min (x + length bytes) t.len }
 
--- and a weak one stores them in its region or orphan
+-- the region or orphan in which a weak one stores them
+abbrev pub landing : Transfer → Option ℕ
+landing t = if is_strong t.class then None else t.region
+
 abbrev pub landed : State → Transfer → ℕ → List ℕ → Option ℕ → State
 landed s t x bytes None = s
-landed s t x bytes (Some r) = if is_strong t.class then s else put s r (t.offset + x) (fitting t x bytes)
+landed s t x bytes (Some r) = put s r (t.offset + x) (fitting t x bytes)
 
 abbrev pub land_in : State → ℕ → List ℕ → Option Transfer → State
 land_in s x bytes None = s
-land_in s x bytes (Some t) = change_transfer (landed s t x bytes t.region) t.number (after_receiving x bytes)
+land_in s x bytes (Some t) = change_transfer (landed s t x bytes (landing t)) t.number (after_receiving x bytes)
 
 -- the payload bytes from place x on have come
 abbrev pub land : State → ℕ → List ℕ → Fate → State
 land s x bytes Skipped = s
-land s x bytes (Gathering before) = s
+land s x bytes Gathering = s
 land s x bytes (Matched t) = land_in s x bytes (pending s t)
 
-abbrev pub gather : List ℕ → Fate → Fate
-gather bytes Skipped = Skipped
-gather bytes (Matched t) = Matched t
-gather bytes (Gathering before) = Gathering (before ++ bytes)
+-- what is kept of a datagram's bytes beside those that it has
+abbrev pub kept : List ℕ → Fate → List ℕ
+kept bytes Skipped = []
+kept bytes (Matched t) = []
+kept bytes Gathering = bytes
 
 abbrev pub after_bytes : List ℕ → Datagram → Datagram
-after_bytes bytes g = record g { moved = g.moved + length bytes; fate = gather bytes g.fate }
+after_bytes bytes g = record g { moved = g.moved + length bytes; bytes = g.bytes ++ kept bytes g.fate }
 
 -- it completes where all its payload has come, and truncated where no byte came at all
 abbrev pub go_on : State → ℕ → Device → Datagram → ℕ → Outcome
@@ -115,21 +121,21 @@ receive_payload s d left v g h = take_payload s d v g h (payload_taken left (g.l
 
 -- the record that a whole header begins
 abbrev pub datagram : List ℕ → Fate → Datagram
-datagram header fate = record { port = port_in header; flow = flow_in header; len = len_in header; moved = 0; fate = fate }
+datagram header fate = record { port = port_in header; flow = flow_in header; len = len_in header; moved = 0; fate = fate; bytes = [] }
 
 -- a record that meets no input: its payload is skipped
 abbrev pub skipped : List ℕ → Option Datagram
 skipped header = if len_in header == 0 then None else Some (datagram header Skipped)
 
 -- an early device matches the header
-abbrev pub match_header : State → ℕ → ℕ → Device → List ℕ → ℕ → Option Transfer → Outcome
+abbrev pub match_header : State → ℕ → ℕ → Device → List ℕ → ℕ → Option ℕ → Outcome
 match_header s d left v header h None = (set_device s d (record v { present = skipped header }), reply.Dropped (port_in header) (flow_in header) (len_in header))
-match_header s d left v header h (Some t) = receive_payload (change_transfer s t.number (with_phase Moving)) d left v (datagram header (Matched t.number)) h
+match_header s d left v header h (Some t) = receive_payload (change_transfer s t (with_phase Moving)) d left v (datagram header (Matched t)) h
 
 abbrev pub begin_datagram : State → ℕ → ℕ → Device → List ℕ → ℕ → Outcome
 begin_datagram s d left v header h =
     if is_early v.kind then match_header s d left v header h (first_posted s d (port_in header) (flow_in header))
-    else receive_payload s d left v (datagram header (Gathering [])) h
+    else receive_payload s d left v (datagram header Gathering) h
 
 -- A header that isn't valid marks the device for good.
 abbrev pub read_header : State → ℕ → ℕ → Device → List ℕ → ℕ → Outcome
@@ -159,21 +165,29 @@ receive s d n (Some v) = if v.is_bad then (s, reply.Bad) else (if is_busy s d v 
 abbrev pub recv : State → ℕ → ℕ → Outcome
 recv s d n = receive s d n (entry s.devices d)
 
-abbrev pub is_got : ℕ → Reply → Bool
-is_got k (reply.Got n) = n == k
-is_got k _ = false
+-- k bytes more of a payload are there, and end before it does
+abbrev pub stays_in_payload : List ℕ → ℕ → ℕ → Bool
+stays_in_payload rest left k = nat_le k (length rest) && nat_lt k left
 
-abbrev pub is_inside_record : Option Device → Bool
-is_inside_record None = false
-is_inside_record (Some v) = not (is_between_records v)
+-- the record that a whole header begins is received, and not dropped
+abbrev pub is_received : State → ℕ → Device → List ℕ → Bool
+is_received s d v header = is_valid_header (most v.kind s.config.page) header && (not (is_early v.kind) || is_here (first_posted s d (port_in header) (flow_in header)))
 
--- the step moved just k bytes, and completed no datagram
-abbrev pub stops_inside : ℕ → ℕ → Outcome → Bool
-stops_inside d k o = is_got k o.1 && is_inside_record (entry o.0.devices d)
+-- k bytes of which the first h belong to the header end inside the record
+abbrev pub stays_behind_header : State → ℕ → ℕ → Device → ℕ → Bool
+stays_behind_header s d k v h =
+    let header = v.header ++ take h v.rest in
+    if is_whole_header header then is_received s d v header && stays_in_payload (drop h v.rest) (len_in header) (k - h)
+    else (h == k)
+
+-- a step that moves k bytes completes no datagram
+abbrev pub stays_inside : State → ℕ → ℕ → Device → Option Datagram → Bool
+stays_inside s d k v None = stays_behind_header s d k v (header_taken k v.header v.rest)
+stays_inside s d k v (Some g) = stays_in_payload v.rest (g.len - g.moved) k
 
 abbrev pub may_fail_at : State → ℕ → ℕ → Option Device → Bool
 may_fail_at s d k None = false
-may_fail_at s d k (Some v) = not v.is_bad && not (is_busy s d v) && ((k == 0) || stops_inside d k (recv s d k))
+may_fail_at s d k (Some v) = not v.is_bad && not (is_busy s d v) && ((k == 0) || stays_inside s d k v v.present)
 
 -- a failure after k bytes
 abbrev pub may_fail_receiving : State → ℕ → ℕ → Bool

@@ -7,6 +7,7 @@ use Rattle.genie_base.specs.declared.region.RegionState.{RegionState}
 use Rattle.genie_base.specs.declared.reply.Note.{Note}
 use Rattle.genie_base.specs.declared.semantics.Class.{Class}
 use Rattle.genie_base.specs.declared.semantics.Direction.{Direction}
+use Rattle.genie_model.specs.declared.datagram.Fate.{Fate}
 use Rattle.genie_model.specs.declared.phase.Phase.{Phase}
 
 pub record Region : Type 0 where
@@ -42,18 +43,14 @@ pub record Transfer : Type 0 where
   pub stored : ℕ
   pub note : Note
 
--- what becomes of the datagram that a device is receiving
-pub data Fate : Type 0 where
-  Matched : (transfer : ℕ) → Fate
-  Skipped : Fate
-  Gathering : (bytes : List ℕ) → Fate
-
+-- the datagram that a device is receiving, what becomes of it, and its payload so far where it is gathered
 pub record Datagram : Type 0 where
   pub port : ℕ
   pub flow : Option ℕ
   pub len : ℕ
   pub moved : ℕ
   pub fate : Fate
+  pub bytes : List ℕ
 
 pub record Device : Type 0 where
   pub kind : Kind

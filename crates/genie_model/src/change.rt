@@ -12,3 +12,26 @@ pub(crate) enum Change<'a> {
     /// Live, with these bytes and then zeros.
     Fill(&'a [u8]),
 }
+
+/// One change of a transfer that receives.
+#[derive(Clone, Copy)]
+pub(crate) enum Turn<'a> {
+    /// A record has met it.
+    Moving,
+    /// Its datagram of so many bytes has ended.
+    Arrived {
+        truncated: bool,
+        len: u32,
+    },
+    /// A gathered datagram of so many bytes is its own.
+    Gathered {
+        truncated: bool,
+        len: u32,
+        bytes: &'a [u8],
+    },
+    /// Bytes of its datagram from a place on have come.
+    Received {
+        at: u32,
+        bytes: &'a [u8],
+    },
+}

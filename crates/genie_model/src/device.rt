@@ -1,26 +1,52 @@
-//! A device with its whole output.
-ghost use Rattle.std.specs.Prelude.{◌≡◌, ◌++◌, [], None, false, OnOk, OnErr};
+//! A device with what is left of its input, and its whole output.
+ghost use Rattle.std.specs.Prelude.{◌≡◌, ◌++◌, [], None, true, false, take, drop, min, length, IfOk, OnOk, OnErr, ◌≤◌};
 ghost use Rattle.genie_model.specs.Pending.{is_early, is_outboard};
+ghost use Rattle.genie_model.specs.Receiving.{receiving, is_between_records};
 
-use genie_base::{Kind, NoMemory};
+use crate::datagram::Datagram;
+use genie_base::{Kind, NoMemory, part};
 use std::alloc::Global;
 use std::marker::Model;
 
-/// A device that received nothing.
+/// A device.
 #[derive(Drop)]
 pub(crate) struct Device {
     kind: Kind,
     depth: u32,
+    rest: Vec<u8>,
+    header: Vec<u8>,
+    present: Option<Datagram>,
+    is_bad: bool,
     sent: Vec<u8>,
 }
 
 impl Model for Device {
-    ghost use Rattle.std.specs.Prelude.{[], None, false};
     ghost use Rattle.genie_model.specs.State as flat;
 
     ghost Value = { flat.Device };
 
-    ghost view = { λ d. record { kind = d.kind; depth = d.depth; rest = []; header = []; present = None; is_bad = false; sent = d.sent.items } };
+    ghost view = { λ d. record { kind = d.kind; depth = d.depth; rest = d.rest.items; header = d.header.items; present = d.present; is_bad = d.is_bad; sent = d.sent.items } };
+}
+
+fn copy_bytes(alloc: Global, bytes: &[u8]) -> Result<Vec<u8>, NoMemory>
+    ensures { IfOk result (λ copy. copy.items ≡ bytes.now) }
+{
+    match bytes.to_vec(alloc) {
+        Ok(copy) => Ok(copy),
+        Err(_) => Err(NoMemory),
+    }
+}
+
+fn copy_datagram(alloc: Global, g: &Option<Datagram>) -> Result<Option<Datagram>, NoMemory>
+    ensures { IfOk result (λ copy. copy ≡ g.now) }
+{
+    match g {
+        None => Ok(None),
+        Some(g) => match g.copy(alloc) {
+            Ok(copy) => Ok(Some(copy)),
+            Err(error) => Err(error),
+        },
+    }
 }
 
 impl Device {
@@ -30,8 +56,152 @@ impl Device {
         Device {
             kind,
             depth,
+            rest: Vec::new(alloc),
+            header: Vec::new(alloc),
+            present: None,
+            is_bad: false,
             sent: Vec::new(alloc),
         }
+    }
+
+    // Another one with the same contents.
+    pub(crate) fn copy(&self, alloc: Global) -> Result<Device, NoMemory>
+        ensures { IfOk result (λ d. d ≡ self.now) }
+    {
+        let rest = match copy_bytes(alloc, self.rest.as_slice()) {
+            Ok(rest) => rest,
+            Err(error) => return Err(error),
+        };
+        let header = match copy_bytes(alloc, self.header.as_slice()) {
+            Ok(header) => header,
+            Err(error) => return Err(error),
+        };
+        let sent = match copy_bytes(alloc, self.sent.as_slice()) {
+            Ok(sent) => sent,
+            Err(error) => return Err(error),
+        };
+        match copy_datagram(alloc, &self.present) {
+            Ok(present) => Ok(Device {
+                kind: self.kind,
+                depth: self.depth,
+                rest,
+                header,
+                present,
+                is_bad: self.is_bad,
+                sent,
+            }),
+            Err(error) => Err(error),
+        }
+    }
+
+    pub(crate) fn kind(&self) -> Kind
+        ensures { result ≡ self.now.kind }
+    {
+        self.kind
+    }
+
+    pub(crate) fn depth(&self) -> u32
+        ensures { result ≡ self.now.depth }
+    {
+        self.depth
+    }
+
+    pub(crate) fn rest(&self) -> &[u8]
+        ensures { result.now ≡ self.now.rest }
+    {
+        self.rest.as_slice()
+    }
+
+    pub(crate) fn header(&self) -> &[u8]
+        ensures { result.now ≡ self.now.header }
+    {
+        self.header.as_slice()
+    }
+
+    pub(crate) fn is_bad(&self) -> bool
+        ensures { result ≡ self.now.is_bad }
+    {
+        self.is_bad
+    }
+
+    // Whether no byte of a record has been moved.
+    pub(crate) fn is_between_records(&self) -> bool
+        ensures { result ≡ is_between_records self.now }
+    {
+        self.header.is_empty() && self.present.is_none()
+    }
+
+    // A copy of the present datagram.
+    pub(crate) fn present_copy(&self, alloc: Global) -> Result<Option<Datagram>, NoMemory>
+        ensures { IfOk result (λ g. g ≡ self.now.present) }
+    {
+        copy_datagram(alloc, &self.present)
+    }
+
+    pub(crate) fn set_present(&mut self, present: Option<Datagram>)
+        ensures { self.new ≡ record self.old { present = present } }
+    {
+        self.present = present;
+    }
+
+    // It is bad for good.
+    pub(crate) fn set_bad(&mut self)
+        ensures { self.new ≡ record self.old { is_bad = true } }
+    {
+        self.is_bad = true;
+    }
+
+    // Takes the header bytes out.
+    pub(crate) fn clear_header(&mut self)
+        ensures { self.new ≡ record self.old { header = [] } }
+    {
+        self.header.clear();
+    }
+
+    // Takes the next bytes of its input.
+    pub(crate) fn take_front(&mut self, alloc: Global, n: u32) -> Result<Vec<u8>, NoMemory>
+        ensures front { IfOk result (λ bytes. bytes.items ≡ take n self.old.rest) }
+        ensures behind { OnOk result (self.new ≡ record self.old { rest = drop n self.old.rest }) }
+        ensures few { IfOk result (λ bytes. length bytes.items ≤ n) }
+    {
+        let n = n as usize;
+        let bytes = match copy_bytes(alloc, part(self.rest.as_slice(), 0, n)) {
+            Ok(bytes) => bytes,
+            Err(error) => return Err(error),
+        };
+        match copy_bytes(alloc, behind(self.rest.as_slice(), n)) {
+            Ok(rest) => {
+                self.rest = rest;
+                Ok(bytes)
+            }
+            Err(error) => Err(error),
+        }
+    }
+
+    // Appends header bytes.
+    pub(crate) fn extend_header(&mut self, bytes: &[u8]) -> Result<(), NoMemory>
+        ensures { OnOk result (self.new ≡ record self.old { header = self.old.header ++ bytes.now }) }
+    {
+        match self.header.extend_from_slice(bytes) {
+            Ok(()) => Ok(()),
+            Err(_) => Err(NoMemory),
+        }
+    }
+
+    // It has received on, as `v` says. What it has sent stays.
+    pub(crate) fn receive(&mut self, v: Device)
+        ensures { self.new ≡ receiving v self.old }
+    {
+        let mut v = v;
+        std::mem::swap(&mut v.sent, &mut self.sent);
+        *self = v;
+    }
+
+    // It has this input.
+    pub(crate) fn set_rest(&mut self, rest: Vec<u8>)
+        ensures { self.new ≡ record self.old { rest = rest.items } }
+    {
+        self.rest = rest;
     }
 
     // Whether it matches a record by its header.
@@ -69,4 +239,11 @@ impl Device {
         self.sent.extend_from_slice(bytes)?;
         Ok(())
     }
+}
+
+// The bytes behind the first `n`.
+fn behind(bytes: &[u8], n: usize) -> &[u8]
+    ensures { result.now ≡ drop n bytes.now }
+{
+    if n < bytes.len() { &bytes[n..] } else { &[] }
 }

@@ -110,7 +110,7 @@ impl Flat {
         })
     }
 
-    /// One step of the flat machine, with the reply. It serves every event but the receive step. After `NoMemory` it answers `NoMemory` for good.
+    /// One step of the flat machine, with the reply. It serves every event. After `NoMemory` it answers `NoMemory` for good.
     pub fn step(&mut self, event: &Event, mark: &Mark) -> Result<Reply, NoMemory>
         requires whole { IsTrue (is_whole event.now) }
         requires served { IsTrue (is_served event.now) }

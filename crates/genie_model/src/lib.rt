@@ -2,6 +2,7 @@
 #![tactic(auto)]
 
 mod change;
+pub mod datagram;
 mod device;
 mod finish;
 pub mod flat;
@@ -12,6 +13,7 @@ mod orphan;
 mod output;
 pub mod phase;
 mod process;
+mod recv;
 mod refuse;
 mod region;
 mod send;

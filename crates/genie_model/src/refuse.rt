@@ -6,7 +6,6 @@ ghost use Rattle.genie_base.specs.Regions.{is_free};
 ghost use Rattle.genie_model.specs.Regions.{extent_of, regions_at, reach_of, committed};
 ghost use Rattle.genie_model.specs.Pending.{wired};
 ghost use Rattle.genie_model.specs.Refusing.{refuse, causes, first_cause, new_region_causes, accessible_pages, over_backing, must_stay_writable, has_output, has_input, may_move, must_make, call_causes, app_causes, sys_causes, buffer_causes, target_causes, most_of, frames_to_wire};
-ghost use Rattle.genie_model.specs.Served.{is_served};
 ghost use Rattle.genie_model.specs.Tables.{entry};
 
 use crate::input::address_or_zero;
@@ -439,6 +438,18 @@ impl Machine {
         None
     }
 
+    fn refuse_recv(&self, dev: u32, len: u32) -> Option<Refusal>
+        ensures { result ≡ first_cause (causes self.now (event.Recv dev len)) }
+    {
+        if !self.has_input(dev) {
+            return Some(Refusal::Dev);
+        }
+        if !(1 <= len && len <= 65_536) {
+            return Some(Refusal::Range);
+        }
+        None
+    }
+
     fn refuse_finish(&self, id: u32) -> Option<Refusal>
         ensures { result ≡ first_cause (causes self.now (event.Finish id)) }
     {
@@ -450,9 +461,8 @@ impl Machine {
 }
 
 impl Machine {
-    // Why an event that is served is refused, or `None` where it is accepted.
+    // Why an event is refused, or `None` where it is accepted.
     pub(crate) fn refusal(&self, event: &Event) -> Option<Refusal>
-        requires { IsTrue (is_served event.now) }
         ensures { result ≡ refuse self.now event.now }
     {
         match event {
@@ -486,10 +496,10 @@ impl Machine {
                 ..
             } => self.refuse_input(*pid, *sem, *dev, *addr, *len),
             Event::Send { dev, len } => self.refuse_send(*dev, *len),
+            Event::Recv { dev, len } => self.refuse_recv(*dev, *len),
             Event::Finish { id } => self.refuse_finish(*id),
             Event::Cancel { id } => self.refuse_cancel(*id),
             Event::Pageout { .. } => None,
-            _ => unreachable!(),
         }
     }
 }

@@ -1,12 +1,12 @@
 //! One step of the plain machine.
-ghost use Rattle.std.specs.Prelude.{◌≡◌, ◌≤◌, None, IfOk, IsTrue};
+ghost use Rattle.std.specs.Prelude.{◌≡◌, ◌≤◌, None, true, IfOk, OnOk};
 ghost use Rattle.genie_base.specs.declared.event.Event.TheVariants as event;
+ghost use Rattle.genie_base.specs.declared.reply.Mark.TheVariants as mark;
 ghost use Rattle.genie_model.specs.Flat.{HasNumber};
 ghost use Rattle.genie_model.specs.Refusing.{refuse};
-ghost use Rattle.genie_model.specs.Served.{is_served};
 ghost use Rattle.genie_model.specs.Regions.{reach_of};
 ghost use Rattle.genie_model.specs.Space.{bytes_reached};
-ghost use Rattle.genie_model.specs.Step.{step, marked, perform, accept, failed, may_fail, uses_store};
+ghost use Rattle.genie_model.specs.Step.{step, marked, perform, accept, failed, may_fail, with_budget, uses_store};
 
 use crate::machine::Machine;
 use crate::transfer::Target;
@@ -41,7 +41,6 @@ impl Machine {
     // What an accepted event does, where nothing fails.
     fn perform(&mut self, event: &Event) -> Result<Reply, NoMemory>
         requires accepted { refuse self.old event.now ≡ None }
-        requires served { IsTrue (is_served event.now) }
         requires numbered { HasNumber self.old }
         ensures { IfOk result (λ reply. perform self.old event.now ≡ (self.new, reply)) }
     {
@@ -121,13 +120,13 @@ impl Machine {
                 }
             }
             Event::Send { dev, len } => self.send(*dev, *len),
+            Event::Recv { dev, len } => self.recv(*dev, *len),
             Event::Finish { id } => Ok(self.finish(*id)),
             Event::Cancel { id } => match self.cancel(*id) {
                 Ok(()) => Ok(Reply::Okay),
                 Err(error) => Err(error),
             },
             Event::Pageout { .. } => Ok(Reply::Okay),
-            _ => unreachable!(),
         }
     }
 }
@@ -136,7 +135,6 @@ impl Machine {
     // An accepted event where nothing fails, after which orphans are cut to what is covered.
     fn accept(&mut self, event: &Event) -> Result<Reply, NoMemory>
         requires accepted { refuse self.old event.now ≡ None }
-        requires served { IsTrue (is_served event.now) }
         requires numbered { HasNumber self.old }
         ensures { IfOk result (λ reply. accept self.old event.now ≡ (self.new, reply)) }
     {
@@ -150,29 +148,76 @@ impl Machine {
     }
 
     // Whether the host of a device may fail after `k` bytes of a step.
-    fn may_fail(&self, event: &Event, k: u32) -> bool
-        requires { IsTrue (is_served event.now) }
-        ensures { result ≡ may_fail self.now event.now k }
+    fn may_fail(&self, event: &Event, k: u32) -> Result<bool, NoMemory>
+        ensures { IfOk result (λ b. b ≡ may_fail self.now event.now k) }
     {
         match event {
-            Event::Send { dev, len } => k < *len && self.may_fail_sending(*dev, k),
-            Event::Recv { .. } => unreachable!(),
-            _ => false,
+            Event::Send { dev, len } => Ok(k < *len && self.may_fail_sending(*dev, k)),
+            Event::Recv { dev, len } if k < *len => self.may_fail_receiving(*dev, k),
+            _ => Ok(false),
         }
     }
 
-    // A send step whose host failed after `k` bytes.
-    fn fail_send(&mut self, dev: u32, len: u32, k: u32) -> Result<Reply, NoMemory>
-        ensures { IfOk result (λ reply. failed self.old (event.Send dev len) k ≡ (self.new, reply)) }
+    // A send step with a smaller budget.
+    fn send_less(&mut self, dev: u32, k: u32) -> Result<(), NoMemory>
+        ensures { OnOk result (self.new ≡ (accept self.old (event.Send dev k)).0) }
+    {
+        match self.send(dev, k) {
+            Ok(_) => {
+                self.tidy();
+                Ok(())
+            }
+            Err(error) => Err(error),
+        }
+    }
+
+    // A receive step with a smaller budget.
+    fn recv_less(&mut self, dev: u32, k: u32) -> Result<(), NoMemory>
+        ensures { OnOk result (self.new ≡ (accept self.old (event.Recv dev k)).0) }
+    {
+        match self.recv(dev, k) {
+            Ok(_) => {
+                self.tidy();
+                Ok(())
+            }
+            Err(error) => Err(error),
+        }
+    }
+
+    fn step_less(&mut self, event: &Event, k: u32) -> Result<(), NoMemory>
+        requires { may_fail self.old event.now k ≡ true }
+        ensures { OnOk result (self.new ≡ (accept self.old (with_budget event.now k)).0) }
+    {
+        match event {
+            Event::Send { dev, .. } => self.send_less(*dev, k),
+            Event::Recv { dev, .. } => self.recv_less(*dev, k),
+            _ => unreachable!(),
+        }
+    }
+
+    // A step whose host failed after `k` bytes.
+    fn fail(&mut self, event: &Event, k: u32) -> Result<Reply, NoMemory>
+        requires { may_fail self.old event.now k ≡ true }
+        ensures { IfOk result (λ reply. failed self.old event.now k ≡ (self.new, reply)) }
     {
         if k == 0 {
             return Ok(Reply::Fault { n: k });
         }
-        match self.send(dev, k) {
-            Ok(_) => {
-                self.tidy();
-                Ok(Reply::Fault { n: k })
-            }
+        match self.step_less(event, k) {
+            Ok(()) => Ok(Reply::Fault { n: k }),
+            Err(error) => Err(error),
+        }
+    }
+
+    // An accepted event under a mark of a device's host. One that doesn't fit counts as none.
+    fn marked_device(&mut self, event: &Event, k: u32) -> Result<Reply, NoMemory>
+        requires accepted { refuse self.old event.now ≡ None }
+        requires numbered { HasNumber self.old }
+        ensures { IfOk result (λ reply. marked self.old event.now (mark.Device k) ≡ (self.new, reply)) }
+    {
+        match self.may_fail(event, k) {
+            Ok(true) => self.fail(event, k),
+            Ok(false) => self.accept(event),
             Err(error) => Err(error),
         }
     }
@@ -180,22 +225,18 @@ impl Machine {
     // An accepted event under a mark. One that doesn't fit counts as none.
     fn marked(&mut self, event: &Event, mark: &Mark) -> Result<Reply, NoMemory>
         requires accepted { refuse self.old event.now ≡ None }
-        requires served { IsTrue (is_served event.now) }
         requires numbered { HasNumber self.old }
         ensures { IfOk result (λ reply. marked self.old event.now mark.now ≡ (self.new, reply)) }
     {
-        match (mark, event) {
-            (Mark::Store, _) if uses_store(event) => Ok(Reply::StoreFault),
-            (Mark::Device { n }, Event::Send { dev, len }) if self.may_fail(event, *n) => {
-                self.fail_send(*dev, *len, *n)
-            }
+        match mark {
+            Mark::Device { n } => self.marked_device(event, *n),
+            Mark::Store if uses_store(event) => Ok(Reply::StoreFault),
             _ => self.accept(event),
         }
     }
 
     // One step.
     pub(crate) fn step(&mut self, event: &Event, mark: &Mark) -> Result<Reply, NoMemory>
-        requires served { IsTrue (is_served event.now) }
         requires numbered { HasNumber self.old }
         ensures { IfOk result (λ reply. step self.old event.now mark.now ≡ (self.new, reply)) }
     {

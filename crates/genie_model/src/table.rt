@@ -7,6 +7,7 @@ ghost use Rattle.genie_model.specs.Regions.{has_number, regions_of, region_pages
 ghost use Rattle.genie_model.specs.Space.{with_region, without_region};
 ghost use Rattle.genie_model.specs.Outputs.{moved_out_of};
 ghost use Rattle.genie_model.specs.Inputs.{moved_in_of};
+ghost use Rattle.genie_model.specs.Receiving.{receiving};
 ghost use Rattle.genie_model.specs.Sending.{change_device, with_sent};
 ghost use Rattle.genie_model.specs.Tables.{entry};
 
@@ -216,6 +217,24 @@ pub(crate) fn add_region(
         add_to(&mut processes[pid], region)
     } else {
         Ok(())
+    }
+}
+
+fn receive_in(device: &mut Option<Device>, v: Device)
+    ensures { device.new ≡ change_device (receiving v) device.old }
+{
+    if let Some(device) = device {
+        device.receive(v);
+    }
+}
+
+// A device has received on, as `v` says.
+pub(crate) fn receive_on(devices: &mut Vec<Option<Device>>, dev: u32, v: Device)
+    ensures { devices.new.items ≡ slice_set devices.old.items dev (change_device (receiving v) (entry devices.old.items dev)) }
+{
+    let dev = dev as usize;
+    if dev < devices.len() {
+        receive_in(&mut devices[dev], v);
     }
 }
 

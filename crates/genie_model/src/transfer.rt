@@ -1,7 +1,8 @@
 //! A pending transfer.
-ghost use Rattle.std.specs.Prelude.{◌≡◌, ◌==◌, ℕ, ◌+◌, ◌-◌, ◌*◌, ◌<◌, ◌≤◌, ◌^◌, [], Some, None, length, map, filter, not, find, sum_by, IfOk, OnOk};
+ghost use Rattle.std.specs.Prelude.{◌≡◌, ◌==◌, ℕ, ◌+◌, ◌-◌, ◌*◌, ◌<◌, ◌≤◌, ◌^◌, [], Some, None, length, map, filter, not, find, take, count_by, sum_by, IfOk, OnOk};
 ghost use Rattle.std.specs.List.{list_any};
 ghost use Rattle.std.specs.Option.{option_copied};
+ghost use Rattle.genie_base.specs.Posted.{meets_flow};
 ghost use Rattle.genie_base.specs.Records.{header_bytes, header_len};
 ghost use Rattle.genie_base.specs.Transfers.{is_strong};
 ghost use Rattle.genie_base.specs.declared.reply.Note.TheVariants.{Whole};
@@ -9,13 +10,16 @@ ghost use Rattle.genie_base.specs.Counts.{cost};
 ghost use Rattle.genie_base.specs.declared.semantics.Direction.TheVariants.{Outward, Inward};
 ghost use Rattle.genie_model.specs.State.{Transfer as Pending};
 ghost use Rattle.genie_model.specs.declared.phase.Phase.TheVariants.{Queued, Posted};
-ghost use Rattle.genie_model.specs.Pending.{is_ready, is_queued, is_posted, is_just, is_inward, is_numbered, waits_for, touched, cost_of, names, names_weakly, covers};
+ghost use Rattle.genie_model.specs.Pending.{is_ready, is_queued, is_posted, is_just, is_inward, awaits, has_arrived, is_numbered, waits_for, touched, cost_of, names, names_weakly, covers};
 ghost use Rattle.genie_model.specs.Inputs.{address_or_zero};
 ghost use Rattle.genie_model.specs.Space.{disowned, is_posted_by};
 ghost use Rattle.genie_model.specs.Refusing.{is_weak_input_into};
 ghost use Rattle.genie_model.specs.Sending.{record_of, unsent, after_sending, after_staging};
+ghost use Rattle.genie_model.specs.Changes.{turn_of, IsSmall};
+ghost use Rattle.genie_model.specs.Receiving.{note_of, landing, fitting, after_receiving, gathered};
 ghost use Rattle.genie_model.specs.Tables.{change, without};
 
+use crate::change::Turn;
 use crate::phase::Phase;
 use genie_base::{Class, Direction, NoMemory, Note, PageSize, Reply, span};
 use std::alloc::Global;
@@ -457,6 +461,170 @@ impl Transfer {
         self.staged += k;
         Ok(())
     }
+}
+
+// Whether a posted input meets a record of this device, port and flow.
+fn meets(posted: Option<u32>, wanted: Option<u32>) -> bool
+    ensures { result ≡ meets_flow posted wanted }
+{
+    match (posted, wanted) {
+        (None, _) => true,
+        (Some(_), None) => false,
+        (Some(posted), Some(wanted)) => posted == wanted,
+    }
+}
+
+// The bytes as far as the first `n`.
+fn front(bytes: &[u8], n: usize) -> &[u8]
+    ensures { result.now ≡ take n bytes.now }
+{
+    if n < bytes.len() { &bytes[..n] } else { bytes }
+}
+
+// How a datagram of so many bytes met a buffer.
+fn note_of(truncated: bool, len: u32, buffer: u32) -> Note
+    ensures { result ≡ note_of truncated len buffer }
+{
+    if truncated {
+        Note::Trunc
+    } else if buffer < len {
+        Note::Cut
+    } else {
+        Note::Whole
+    }
+}
+
+impl Transfer {
+    // Whether it is a posted input that a record of this device and port, with this flow or none, meets.
+    fn awaits(&self, device: u32, port: u16, flow: Option<u32>) -> bool
+        ensures { result ≡ awaits device port flow self.now }
+    {
+        self.is_posted() && (self.device == device && self.port == port && meets(self.flow, flow))
+    }
+
+    // Whether it is an input of the device that is ready.
+    fn has_arrived(&self, device: u32) -> bool
+        ensures { result ≡ has_arrived device self.now }
+    {
+        let is_inward = match self.direction {
+            Direction::Inward => true,
+            Direction::Outward => false,
+        };
+        is_inward && self.is_ready() && self.device == device
+    }
+
+    // The region or orphan in which a weak one stores what comes.
+    pub(crate) fn landing(&self) -> Option<u32>
+        ensures { result ≡ landing self.now }
+    {
+        if self.class.is_strong() {
+            None
+        } else {
+            self.region
+        }
+    }
+
+    // Of the bytes from place `at` of a datagram on those that fit its buffer.
+    pub(crate) fn fitting<'a>(&self, at: u32, bytes: &'a [u8]) -> &'a [u8]
+        ensures { result.now ≡ fitting self.now at bytes.now }
+    {
+        front(bytes, self.len.saturating_sub(at) as usize)
+    }
+
+    fn keep(&mut self, at: u32, bytes: &[u8]) -> Result<(), NoMemory>
+        requires { at + length bytes.now < 2 ^ 32 }
+        ensures { OnOk result (self.new ≡ after_receiving at bytes.now self.old) }
+    {
+        self.stored = (at + bytes.len() as u32).min(self.len);
+        if !self.class.is_strong() {
+            return Ok(());
+        }
+        let fitting = front(bytes, self.len.saturating_sub(at) as usize);
+        match self.payload.extend_from_slice(fitting) {
+            Ok(()) => Ok(()),
+            Err(_) => Err(NoMemory),
+        }
+    }
+
+    fn gather(&mut self, truncated: bool, len: u32, bytes: &[u8]) -> Result<(), NoMemory>
+        ensures { OnOk result (self.new ≡ gathered truncated len bytes.now self.old) }
+    {
+        let fitting = front(bytes, self.len as usize);
+        self.phase = Phase::Ready;
+        self.stored = fitting.len() as u32;
+        self.note = note_of(truncated, len, self.len);
+        self.payload.clear();
+        match self.payload.extend_from_slice(fitting) {
+            Ok(()) => Ok(()),
+            Err(_) => Err(NoMemory),
+        }
+    }
+
+    // Takes a turn.
+    fn turn(&mut self, turn: &Turn) -> Result<(), NoMemory>
+        requires { IsSmall turn.now }
+        ensures { OnOk result (self.new ≡ turn_of turn.now self.old) }
+    {
+        match turn {
+            Turn::Moving => {
+                self.phase = Phase::Moving;
+                Ok(())
+            }
+            Turn::Arrived { truncated, len } => {
+                self.phase = Phase::Ready;
+                self.note = note_of(*truncated, *len, self.len);
+                Ok(())
+            }
+            Turn::Gathered {
+                truncated,
+                len,
+                bytes,
+            } => self.gather(*truncated, *len, bytes),
+            Turn::Received { at, bytes } => self.keep(*at, bytes),
+        }
+    }
+}
+
+// The first posted input that a record of this device and port, with this flow or none, meets.
+pub(crate) fn first_posted(
+    transfers: &[Transfer],
+    device: u32,
+    port: u16,
+    flow: Option<u32>,
+) -> Option<&Transfer>
+    ensures { option_copied result ≡ find (awaits device port flow) transfers.now }
+{
+    transfers
+        .iter()
+        .find(|transfer| transfer.awaits(device, port, flow))
+}
+
+// How many datagrams of a device wait for their `done`.
+pub(crate) fn arrived(transfers: &[Transfer], device: u32) -> usize
+    ensures { result ≡ count_by (has_arrived device) transfers.now }
+{
+    transfers
+        .iter()
+        .filter(|transfer| transfer.has_arrived(device))
+        .count()
+}
+
+// The one of this number takes a turn.
+pub(crate) fn turn_first(
+    transfers: &mut [Transfer],
+    number: u32,
+    turn: &Turn,
+) -> Result<(), NoMemory>
+    requires { IsSmall turn.now }
+    ensures { OnOk result (transfers.new ≡ change (is_numbered number) (turn_of turn.now) transfers.old) }
+{
+    for i in 0..transfers.len() {
+        let transfer = &mut transfers[i];
+        if transfer.number() == number {
+            return transfer.turn(turn);
+        }
+    }
+    Ok(())
 }
 
 // Whether one of them names this region or orphan.
