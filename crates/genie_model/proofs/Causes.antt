@@ -10,7 +10,7 @@ use Rattle.genie_base.specs.declared.refusal.Refusal.{Refusal}
 use Rattle.genie_base.specs.declared.refusal.Refusal.TheVariants.{Proc, Dev, Range, Denied, Regions, Space, Backing, Transfers, Frames}
 use Rattle.genie_base.specs.declared.semantics.Class.{Class}
 use Rattle.genie_base.specs.declared.semantics.Class.TheVariants.{Copy, Share, Move, WeakMove}
-use Rattle.genie_model.specs.State.{State, Region}
+use Rattle.genie_model.specs.State.{State}
 use Rattle.genie_model.specs.Regions.{regions_at, is_here, is_alive, place_of, reach_of, write_reach_of}
 use Rattle.genie_model.specs.Pending.{wired}
 use Rattle.genie_model.specs.Refusing.{first_cause, call_causes, new_region_causes, app_causes, sys_causes, buffer_causes, target_causes, must_make, most_of, has_input, over_backing, frames_to_wire}

@@ -1,5 +1,5 @@
 -- What each change of the plain machine makes of a region.
-use Rattle.std.specs.Prelude.{ℕ, ◌+◌, ◌<◌, ◌^◌, length, ⊤, List, [], ◌∷◌, if◌then◌else◌}
+use Rattle.std.specs.Prelude.{◌+◌, ◌<◌, ◌^◌, length, ⊤, List, [], ◌∷◌, if◌then◌else◌}
 use Rattle.genie_base.specs.Regions.{is_accessible}
 use Rattle.genie_base.specs.declared.region.RegionState.TheVariants.{Live}
 use Rattle.genie_model.specs.State.{Region, Transfer}

@@ -1,8 +1,10 @@
 -- What the plain machine is seen as: a state, or none once memory ran out.
-use Rattle.std.specs.Prelude.{◌≡◌, ◌<◌, ◌^◌, ℕ, Option, None, Some, Result, Ok, Err, List, []}
+use Rattle.std.specs.Prelude.{◌≡◌, ◌<◌, ◌^◌, ℕ, Option, None, Some, Result, Ok, Err, List, [], slice_set}
 use Rattle.genie_base.specs.declared.event.Event.{Event}
 use Rattle.genie_base.specs.declared.reply.Mark.{Mark}
 use Rattle.genie_base.specs.declared.reply.Reply.{Reply}
+use Rattle.genie_model.specs.Receiving.{with_rest}
+use Rattle.genie_model.specs.Sending.{change_device}
 use Rattle.genie_model.specs.State.{State, Device}
 use Rattle.genie_model.specs.Step.{step}
 use Rattle.genie_model.specs.Tables.{entry}
@@ -25,3 +27,14 @@ sent_of s d = sent_by (entry s.devices d)
 -- fewer calls were accepted than there are numbers for transfers
 abbrev pub HasNumber : State → Type 0
 HasNumber s = s.next < 2 ^ 32
+
+-- the state with these bytes as a device's input
+abbrev pub with_input : State → ℕ → List ℕ → State
+with_input s d bytes = record s { devices = slice_set s.devices d (change_device (with_rest bytes) (entry s.devices d)) }
+
+-- a device got its input, or memory ran out for good
+abbrev pub GivesInput : {E : Type 0} → Option State → ℕ → List ℕ → Option State → Result (Unit {0}) E → Type 0
+GivesInput (Some s) d bytes new (Ok u) = new ≡ Some (with_input s d bytes)
+GivesInput (Some s) d bytes new (Err e) = new ≡ None
+GivesInput None d bytes new (Ok u) = ⊥
+GivesInput None d bytes new (Err e) = new ≡ None

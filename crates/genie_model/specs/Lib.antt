@@ -11,7 +11,6 @@ pub mod Regions
 pub mod Rows
 pub mod Scripts
 pub mod Sending
-pub mod Served
 pub mod Shape
 pub mod Space
 pub mod State

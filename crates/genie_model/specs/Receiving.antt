@@ -25,6 +25,10 @@ receiving v old = record v { sent = old.sent }
 abbrev pub set_device : State → ℕ → Device → State
 set_device s d v = record s { devices = slice_set s.devices d (change_device (receiving v) (entry s.devices d)) }
 
+-- with these bytes left of its input
+abbrev pub with_rest : List ℕ → Device → Device
+with_rest bytes v = record v { rest = bytes }
+
 abbrev pub no_bytes : List ℕ → Bool
 no_bytes [] = true
 no_bytes (b ∷ bytes) = false

@@ -3,8 +3,7 @@ ghost use Rattle.std.specs.Prelude.{◌≡◌, ℕ, [], Some, IfOk, IfSome, IsTr
 ghost use Rattle.std.specs.Option.{option_map};
 ghost use Rattle.genie_base.specs.Configs.{config_of, device_config, Fits};
 ghost use Rattle.genie_base.specs.Events.{is_whole};
-ghost use Rattle.genie_model.specs.Flat.{Steps, HasNumber, sent_of};
-ghost use Rattle.genie_model.specs.Served.{is_served};
+ghost use Rattle.genie_model.specs.Flat.{GivesInput, Steps, HasNumber, sent_of};
 ghost use Rattle.genie_model.specs.State.{boot, boot_device, boot_devices};
 
 use crate::device::Device;
@@ -113,7 +112,6 @@ impl Flat {
     /// One step of the flat machine, with the reply. It serves every event. After `NoMemory` it answers `NoMemory` for good.
     pub fn step(&mut self, event: &Event, mark: &Mark) -> Result<Reply, NoMemory>
         requires whole { IsTrue (is_whole event.now) }
-        requires served { IsTrue (is_served event.now) }
         requires numbered { IfSome self.old HasNumber }
         ensures { Steps self.old event.now mark.now self.new result }
     {
@@ -125,6 +123,25 @@ impl Flat {
             Err(error) => {
                 self.failed = true;
                 Err(error)
+            }
+        }
+    }
+
+    /// Gives a device the bytes of its input; a device without an input never looks at them. After `NoMemory` it answers `NoMemory` for good.
+    pub fn input(&mut self, dev: u32, bytes: &[u8]) -> Result<(), NoMemory>
+        ensures { GivesInput self.old dev bytes.now self.new result }
+    {
+        if self.failed {
+            return Err(NoMemory);
+        }
+        match bytes.to_vec(self.machine.alloc) {
+            Ok(rest) => {
+                table::give_input(&mut self.machine.devices, dev, rest);
+                Ok(())
+            }
+            Err(_) => {
+                self.failed = true;
+                Err(NoMemory)
             }
         }
     }

@@ -7,7 +7,7 @@ ghost use Rattle.genie_model.specs.Regions.{has_number, regions_of, region_pages
 ghost use Rattle.genie_model.specs.Space.{with_region, without_region};
 ghost use Rattle.genie_model.specs.Outputs.{moved_out_of};
 ghost use Rattle.genie_model.specs.Inputs.{moved_in_of};
-ghost use Rattle.genie_model.specs.Receiving.{receiving};
+ghost use Rattle.genie_model.specs.Receiving.{receiving, with_rest};
 ghost use Rattle.genie_model.specs.Sending.{change_device, with_sent};
 ghost use Rattle.genie_model.specs.Tables.{entry};
 
@@ -235,6 +235,24 @@ pub(crate) fn receive_on(devices: &mut Vec<Option<Device>>, dev: u32, v: Device)
     let dev = dev as usize;
     if dev < devices.len() {
         receive_in(&mut devices[dev], v);
+    }
+}
+
+fn give_to(device: &mut Option<Device>, rest: Vec<u8>)
+    ensures { device.new ≡ change_device (with_rest rest.items) device.old }
+{
+    if let Some(device) = device {
+        device.set_rest(rest);
+    }
+}
+
+// A device has this input.
+pub(crate) fn give_input(devices: &mut Vec<Option<Device>>, dev: u32, rest: Vec<u8>)
+    ensures { devices.new.items ≡ slice_set devices.old.items dev (change_device (with_rest rest.items) (entry devices.old.items dev)) }
+{
+    let dev = dev as usize;
+    if dev < devices.len() {
+        give_to(&mut devices[dev], rest);
     }
 }
 

@@ -1,7 +1,6 @@
 //! The plain machine, run once.
 ghost use Rattle.std.specs.Prelude.{◌≡◌, [], ◌∷◌, ◌+◌, ◌≤◌, ◌<◌, IfSome, IfOk, IsTrue};
 ghost use Rattle.genie_base.specs.Events.{is_whole};
-ghost use Rattle.genie_model.specs.Served.{is_served};
 
 use crate::{Flat, laws};
 use genie_base::{Config, DeviceConfig, Event, Kind, Mark, NoMemory, PageBytes, Reply, Semantics};
@@ -36,7 +35,6 @@ fn booted(alloc: Global) -> Result<Flat, NoMemory>
 // A step, with a bound on the number of the next transfer.
 fn step(flat: &mut Flat, most: u32, event: &Event, mark: &Mark) -> Result<Reply, NoMemory>
     requires whole { IsTrue (is_whole event.now) }
-    requires served { IsTrue (is_served event.now) }
     requires few { most < 100 }
     requires numbered { IfSome flat.old (λ s. s.next ≤ most) }
     ensures { IfSome flat.new (λ s. s.next ≤ most + 1) }
@@ -55,8 +53,7 @@ fn two_bytes(first: u8) -> PageBytes
 }
 
 fn output() -> Event
-    ensures whole { IsTrue (is_whole result) }
-    ensures served { IsTrue (is_served result) }
+    ensures { IsTrue (is_whole result) }
 {
     Event::Output {
         pid: 0,

@@ -9,7 +9,7 @@ use Rattle.genie_base.specs.declared.semantics.Direction.TheVariants.{Inward, Ou
 use Rattle.genie_model.specs.Flat.{sent_of}
 use Rattle.genie_model.specs.State.{State}
 use Rattle.genie_script.specs.declared.line.DeviceLine.{DeviceLine}
-use Rattle.genie_replay.specs.Files.{file_opening, openings_of, HandleRose, HasSent, HasSentFront, HoldsOfFile, HoldsOfOutputs, IsFresh, IsFreshOutput, IsWriting, KeptUpTo, OpensAll, SameFaults, WritesFile, WritesFiles}
+use Rattle.genie_replay.specs.Files.{file_opening, openings_of, HandleRose, HasSent, HasSentFront, HoldsOfFile, HoldsOfInput, HoldsOfInputs, HoldsOfOutputs, IsFresh, IsFreshFor, IsFreshInput, IsFreshOutput, IsWriting, KeptUpTo, OpensAll, SameFaults, WritesFile, WritesFiles}
 use Rattle.genie_replay.specs.Write.{AppendsFront}
 use Rattle.genie_replay.proofs.Writing.{appends_nothing}
 
@@ -59,6 +59,7 @@ pub opened_one : {E : Type 0} (name : List ℕ) (direction : Direction) (mode : 
 opened_one name direction mode content e k u v o = record {
   tried = o.tried;
   opened = o.opened;
+  names = o.names;
   faults = record {
     handles = λ h. elim (h == u.opened + 1) as (λ b. (h == u.opened + 1) ≡ b → (v.handle h).faults ≡ (u.handle h).faults) [
       | true ↦ λ t. let same : h ≡ u.opened + 1 = grind (arith, nat_tests, t) in rw same o.fault_count
@@ -72,12 +73,13 @@ pub opening_one : {E : Type 0} (name : List ℕ) (direction : Direction) (mode :
 opening_one name direction mode content e u v r o = λ k low. o.others k (λ s. omega (arith, s, low))
 
 opens_none : (v : HostView) → OpensAll [] v v
-opens_none v = record { tried = sym (append-nil v.tried); opened = omega arith; faults = same_faults v }
+opens_none v = record { tried = sym (append-nil v.tried); opened = omega arith; names = refl; faults = same_faults v }
 
 pub opens_more : (a b : List (List ℕ × Direction)) (u v w : HostView) → OpensAll a u v → OpensAll b v w → OpensAll (a ++ b) u w
 opens_more a b u v w p q = record {
   tried = q.tried ∙ ap (λ t. t ++ b) p.tried ∙ append_assoc u.tried a b;
   opened = let first : v.opened ≡ u.opened + length a = p.opened in let second : w.opened ≡ v.opened + length b = q.opened in omega (arith, first, second, length-append a b);
+  names = q.names ∙ p.names;
   faults = same_trans u v w p.faults q.faults;
 }
 
@@ -194,4 +196,34 @@ fresh_more all ds d old mid new (Ok u) is o kept f later p =
     rw is (
       fresh_head d d.output 0 mid.opened (old.opened + length (openings_of d)) old mid new f count (later _ (omega arith)),
       rw (← count) (outputs_map (IsFresh mid new) (IsFresh old new) mid.opened ds (λ n h after q. subst (λ (x : HandleState). IsFreshOutput x.bytes (new.handle h)) replies q) p),
+    )
+
+input_map : (P Q : List ℕ → ℕ → Type 0) (opened : ℕ) (o : Option (List ℕ)) → ((name : List ℕ) (h : ℕ) → opened < h → P name h → Q name h) → HoldsOfInput P o (opened + 1) → HoldsOfInput Q o (opened + 1)
+input_map P Q opened None f p = tt
+input_map P Q opened (Some name) f p = f name (opened + 1) (omega arith) p
+
+-- a test of inputs that is only about later handles
+pub inputs_map : (P Q : List ℕ → ℕ → Type 0) (opened : ℕ) (ds : List DeviceLine) → ((name : List ℕ) (h : ℕ) → opened < h → P name h → Q name h) → HoldsOfInputs P opened ds → HoldsOfInputs Q opened ds
+inputs_map P Q opened [] f p = tt
+inputs_map P Q opened (d ∷ ds) f p = (
+  input_map P Q opened d.input f p.0,
+  inputs_map P Q (opened + length (openings_of d)) ds (λ name h later q. f name h (omega arith) q) p.1,
+)
+
+-- the inputs that were opened are fresh
+fresh_input : (d : DeviceLine) (o : Option (List ℕ)) → d.input ≡ o → (old mid new : HostView) → HoldsOfInput (IsFreshFor old mid) o (old.opened + 1) → mid.opened ≡ old.opened + length (openings_of d) → KeptUpTo mid.opened mid new → HoldsOfInput (IsFreshFor old new) o (old.opened + 1)
+fresh_input d None is old mid new f count kept = tt
+fresh_input d (Some name) is old mid new f count kept =
+    let named : length (openings_of d) ≡ 1 + length (file_opening Outward d.output) = ap (λ o. length (file_opening Inward o ++ file_opening Outward d.output)) is ∙ length-append ((name, Inward) ∷ []) (file_opening Outward d.output) in
+    let same : new.handle (old.opened + 1) ≡ mid.handle (old.opened + 1) = kept (old.opened + 1) (omega (arith, count, named)) in
+    rw same f
+
+pub inputs_more : {E : Type 0} (all ds : List DeviceLine) (d : DeviceLine) (old mid new : HostView) (r : Result (Unit {0}) E)
+    → all ≡ d ∷ ds → OpensAll (openings_of d) old mid → HoldsOfInput (IsFreshFor old mid) d.input (old.opened + 1) → KeptUpTo mid.opened mid new → OnOk r (HoldsOfInputs (IsFreshFor mid new) mid.opened ds) → OnOk r (HoldsOfInputs (IsFreshFor old new) old.opened all)
+inputs_more all ds d old mid new (Err e) is o f later p = tt
+inputs_more all ds d old mid new (Ok u) is o f later p =
+    let count : mid.opened ≡ old.opened + length (openings_of d) = o.opened in
+    rw is (
+      fresh_input d d.input refl old mid new f count later,
+      rw (← count) (inputs_map (IsFreshFor mid new) (IsFreshFor old new) mid.opened ds (λ name h after q. subst (λ (n : List ℕ → Option (List ℕ)). IsFreshInput (n name) (new.handle h)) o.names q) p),
     )

@@ -1,11 +1,12 @@
 -- From the openings and the boot part to the whole run.
 use Rattle.std.proofs.Common.{◌≡◌, ℕ, ◌+◌, length, List, [], ◌∷◌, ◌++◌, refl, ap, ◌∙◌, append_assoc, arith, subst, inl, inr}
-use Rattle.std.specs.Prelude.{Option, Some, None, Ok, flat_map}
+use Rattle.std.specs.Prelude.{◌⊎◌, Option, Some, None, Ok, flat_map}
 use Rattle.std.specs.Io.KnownBytes.{Appends, Keeps, prepend_known}
 use Rattle.genie_base.specs.Configs.{Config}
 use Rattle.genie_base.specs.declared.semantics.Direction.TheVariants.{Inward}
 use Rattle.genie_host.specs.Host.{HostView, HandleState, OnlyHandle, Opens, Reading, empty_told}
 use Rattle.genie_model.specs.Flat.{sent_of}
+use Rattle.genie_model.specs.State.{State, boot}
 use Rattle.genie_script.specs.Judge.{Numbered, Part, Refused, Booted, boot_part, events_from}
 use Rattle.genie_script.specs.Texts.{lines_of}
 use Rattle.genie_script.specs.declared.judge.Ending.{Ending}
@@ -15,13 +16,15 @@ use Rattle.genie_replay.specs.declared.booting.BootRead.TheVariants as read
 use Rattle.genie_replay.specs.declared.script.LineStep.{LineStep}
 use Rattle.genie_replay.specs.declared.status.Status.{Status}
 use Rattle.genie_replay.specs.declared.status.Status.TheVariants as status
-use Rattle.genie_replay.specs.Booted.{Runs, RunsAll, RunsBooted, RunsInPart}
+use Rattle.genie_replay.specs.Booted.{Booted as Run, Cut, Runs, RunsAll, RunsBooted, RunsFrom, RunsInPart, Started}
 use Rattle.genie_replay.specs.Booting.{ReadsBoot}
-use Rattle.genie_replay.specs.Files.{HasSent, HasSentFront, HoldsOfFile, HoldsOfOutputs, IsFresh, IsFreshOutput, IsWriting, KeptUpTo, OpensAll, openings_of}
+use Rattle.genie_replay.specs.Files.{HasSent, HasSentFront, HoldsOfFile, HoldsOfInputs, HoldsOfOutputs, IsFresh, IsFreshFor, IsFreshInput, IsFreshOutput, IsReading, IsSameHandle, IsWriting, KeptUpTo, OpensAll, openings_of}
+use Rattle.genie_replay.specs.Inputs.{HasInputs, IsBoot, ReadsInputs}
 use Rattle.genie_replay.specs.Outcome.{HasAll, HasFront, IsOutcome, OutcomeOf, Ran, RanInPart, RanNothing, openings}
 use Rattle.genie_replay.specs.Statuses.{status_of}
 use Rattle.genie_replay.specs.Write.{AppendsFront}
-use Rattle.genie_replay.proofs.Filing.{outputs_map}
+use Rattle.genie_replay.proofs.Filing.{inputs_map, outputs_map}
+use Rattle.genie_replay.proofs.Starting.{KeptInput, sets_boot}
 
 keeps_same : (k : Option (List ℕ)) → Keeps k k
 keeps_same None = tt
@@ -50,65 +53,107 @@ pub record Opened (script : List ℕ) (ds : List DeviceLine) (old read new : Hos
   pub replies : new.handle 0 ≡ old.handle 0
   pub input : new.handle 1 ≡ read.handle 1
   pub outputs : HoldsOfOutputs (IsFresh old new) 1 ds
+  pub inputs : HoldsOfInputs (IsFreshFor old new) 1 ds
   pub tried : new.tried ≡ old.tried ++ openings script ds
 
 pub opened : {E : Type 0} (script : List ℕ) (ds : List DeviceLine) (content : Option (List ℕ)) (e : E) (h : ℕ) (old first read new : HostView) → old.opened ≡ 0
-    → Opens script Inward Reading content e old first (Ok h) → OnlyHandle 1 first read → OpensAll (flat_map openings_of ds) read new → KeptUpTo read.opened read new → HoldsOfOutputs (IsFresh read new) read.opened ds → Opened script ds old read new
-opened script ds content e h old first read new none a b d kept fresh =
+    → Opens script Inward Reading content e old first (Ok h) → OnlyHandle 1 first read → OpensAll (flat_map openings_of ds) read new → KeptUpTo read.opened read new → HoldsOfOutputs (IsFresh read new) read.opened ds → HoldsOfInputs (IsFreshFor read new) read.opened ds → Opened script ds old read new
+opened script ds content e h old first read new none a b d kept fresh inputs =
     let count : read.opened ≡ 1 = b.opened ∙ a.opened ∙ ap (λ n. n + 1) none in
     let replies : read.handle 0 ≡ old.handle 0 = b.others 0 (λ x. cc) ∙ a.others 0 (λ x. omega (arith, x)) in
     record {
       replies = kept 0 (omega arith) ∙ replies;
       input = kept 1 (omega (arith, count));
       outputs = outputs_map (IsFresh read new) (IsFresh old new) 1 ds (λ n k later q. subst (λ (x : HandleState). IsFreshOutput x.bytes (new.handle k)) replies q) (rw count at fresh);
+      inputs = inputs_map (IsFreshFor read new) (IsFreshFor old new) 1 ds (λ name k later q. subst (λ (n : List ℕ → Option (List ℕ)). IsFreshInput (n name) (new.handle k)) (b.names ∙ a.names) q) (rw count at inputs);
       tried = d.tried ∙ ap (λ t. t ++ flat_map openings_of ds) (b.tried ∙ a.tried) ∙ append_assoc old.tried _ _;
     }
 
 pub opened_writing : (script : List ℕ) (ds : List DeviceLine) (old read new : HostView) → Opened script ds old read new → HoldsOfOutputs (IsWriting new) 1 ds
 opened_writing script ds old read new o = outputs_map (IsFresh old new) (IsWriting new) 1 ds (λ n h later f. f.mode) o.outputs
 
-ran : (script : List ℕ) (c : Config) (ds : List DeviceLine) (events : List Numbered) (old read new end : HostView) → Opened script ds old read new → RunsAll c ds events new end → Ran script c ds events old end
-ran script c ds events old read new end o r = record {
+pub opened_reading : (script : List ℕ) (ds : List DeviceLine) (old read new : HostView) → Opened script ds old read new → HoldsOfInputs (IsReading new) 1 ds
+opened_reading script ds old read new o = inputs_map (IsFreshFor old new) (IsReading new) 1 ds (λ name h later f. f.mode) o.inputs
+
+-- the outputs are still fresh where the inputs were read
+still_fresh : (script : List ℕ) (p : Part) (old read new mid : HostView) (start : State) → Opened script p.devices old read new → Started p new mid start → HoldsOfOutputs (IsFresh old mid) 1 p.devices
+still_fresh script p old read new mid start o b = outputs_both (IsFresh old new) (IsSameHandle new mid) (IsFresh old mid) 1 p.devices (λ n h f same. rw same f) o.outputs b.outputs
+
+begins : (script : List ℕ) (p : Part) (old read new mid : HostView) (start : State) → Opened script p.devices old read new → Started p new mid start → IsBoot old.names p.config p.devices start
+begins script p old read new mid start o b told = sets_boot old.names p.config (λ _. []) new 1 p.devices start told (inputs_map (IsFreshFor old new) (KeptInput old.names new) 1 p.devices (λ name h later f. f.whole) o.inputs) b.sets
+
+ran : (script : List ℕ) (p : Part) (events : List Numbered) (old read new mid end : HostView) (start : State) → Opened script p.devices old read new → Started p new mid start → RunsAll start p.devices events mid end → Ran script p.config p.devices events old end
+ran script p events old read new mid end start o b r = record {
+  start = start;
+  begins = begins script p old read new mid start o b;
   replies = r.replies;
   last = r.last;
   follows = r.follows;
-  built = r.built;
-  written = rw o.replies at r.written;
-  sent = outputs_both (IsFresh old new) (HasSent r.last new end) (HasAll r.last old end) 1 ds (λ n h f s. kept_appends (empty_told (old.handle 0).bytes) (new.handle h).bytes (end.handle h).bytes (sent_of r.last n) f.empty s) o.outputs r.sent;
-  tried = r.tried ∙ o.tried;
+  written = rw (b.replies ∙ o.replies) at r.written;
+  sent = outputs_both (IsFresh old mid) (HasSent r.last mid end) (HasAll r.last old end) 1 p.devices (λ n h f s. kept_appends (empty_told (old.handle 0).bytes) (mid.handle h).bytes (end.handle h).bytes (sent_of r.last n) f.empty s) (still_fresh script p old read new mid start o b) r.sent;
+  tried = r.tried ∙ b.tried ∙ o.tried;
 }
 
-ran_in_part : (script : List ℕ) (c : Config) (ds : List DeviceLine) (events : List Numbered) (old read new end : HostView) → Opened script ds old read new → RunsInPart c ds events new end → RanInPart script c ds events old end
-ran_in_part script c ds events old read new end o r = record {
+ran_in_part : (script : List ℕ) (p : Part) (events : List Numbered) (old read new mid end : HostView) (start : State) → Opened script p.devices old read new → Started p new mid start → RunsInPart start p.devices events mid end → RanInPart script p.config p.devices events old end
+ran_in_part script p events old read new mid end start o b r = record {
+  start = start;
+  begins = begins script p old read new mid start o b;
   done = r.done;
   left = r.left;
   split = r.split;
   replies = r.replies;
   last = r.last;
   follows = r.follows;
-  written = rw o.replies at r.written;
-  sent = outputs_both (IsFresh old new) (HasSentFront r.last new end) (HasFront r.last old end) 1 ds (λ n h f s. kept_front (empty_told (old.handle 0).bytes) (new.handle h).bytes (end.handle h).bytes (sent_of r.last n) f.empty s) o.outputs r.sent;
-  tried = r.tried ∙ o.tried;
+  written = rw (b.replies ∙ o.replies) at r.written;
+  sent = outputs_both (IsFresh old mid) (HasSentFront r.last mid end) (HasFront r.last old end) 1 p.devices (λ n h f s. kept_front (empty_told (old.handle 0).bytes) (mid.handle h).bytes (end.handle h).bytes (sent_of r.last n) f.empty s) (still_fresh script p old read new mid start o b) r.sent;
+  tried = r.tried ∙ b.tried ∙ o.tried;
 }
 
-booted_outcome : (st : Status) (script : List ℕ) (p : Part) (before : ℕ) (lines : List (List ℕ)) (old read new end : HostView) → Opened script p.devices old read new → Runs p before lines new end st → IsOutcome script (Booted p before lines) old end st
-booted_outcome status.HostFault script p before lines old read new end o r = inr (ran_in_part script p.config p.devices (events_from before lines) old read new end o r)
-booted_outcome status.NoMemory script p before lines old read new end o (inl same) = inl (rw (same, o.replies) (keeps_same (old.handle 0).bytes))
-booted_outcome status.NoMemory script p before lines old read new end o (inr r) = inr (ran_in_part script p.config p.devices (events_from before lines) old read new end o r)
-booted_outcome (status.NotBuilt l) script p before lines old read new end o r = record {
-  done = r.done;
-  next = r.next;
-  left = r.left;
-  split = r.split;
-  line = r.line;
-  unbuilt = r.unbuilt;
-  ran = ran script p.config p.devices r.done old read new end o r.runs;
-}
-booted_outcome status.Done script p before lines old read new end o r = (r.0, ran script p.config p.devices (events_from before lines) old read new end o r.1)
-booted_outcome status.Usage script p before lines old read new end o r = (r.0, ran script p.config p.devices (events_from before lines) old read new end o r.1)
-booted_outcome (status.BadLine l) script p before lines old read new end o r = (r.0, ran script p.config p.devices (events_from before lines) old read new end o r.1)
-booted_outcome status.TooLong script p before lines old read new end o r = (r.0, ran script p.config p.devices (events_from before lines) old read new end o r.1)
-booted_outcome (status.BadBoot l) script p before lines old read new end o r = (r.0, ran script p.config p.devices (events_from before lines) old read new end o r.1)
+started_outcome : (st : Status) (script : List ℕ) (p : Part) (before : ℕ) (lines : List (List ℕ)) (old read new mid end : HostView) (start : State) → Opened script p.devices old read new → Started p new mid start → Runs start p.devices before lines mid end st → IsOutcome script (Booted p before lines) old end st
+started_outcome status.HostFault script p before lines old read new mid end start o b r = inr (ran_in_part script p (events_from before lines) old read new mid end start o b r)
+started_outcome status.NoMemory script p before lines old read new mid end start o b r = inr (ran_in_part script p (events_from before lines) old read new mid end start o b r)
+started_outcome status.Done script p before lines old read new mid end start o b r = (r.0, ran script p (events_from before lines) old read new mid end start o b r.1)
+started_outcome status.Usage script p before lines old read new mid end start o b r = (r.0, ran script p (events_from before lines) old read new mid end start o b r.1)
+started_outcome (status.BadLine l) script p before lines old read new mid end start o b r = (r.0, ran script p (events_from before lines) old read new mid end start o b r.1)
+started_outcome status.TooLong script p before lines old read new mid end start o b r = (r.0, ran script p (events_from before lines) old read new mid end start o b r.1)
+started_outcome (status.BadBoot l) script p before lines old read new mid end start o b r = (r.0, ran script p (events_from before lines) old read new mid end start o b r.1)
+
+-- cut short before the reply to the boot part
+cut_outcome : (st : Status) (script : List ℕ) (p : Part) (before : ℕ) (lines : List (List ℕ)) (old read new end : HostView) → Opened script p.devices old read new → Cut new end st → IsOutcome script (Booted p before lines) old end st
+cut_outcome status.HostFault script p before lines old read new end o c = inl (rw (c, o.replies) (keeps_same (old.handle 0).bytes))
+cut_outcome status.NoMemory script p before lines old read new end o c = inl (rw (c, o.replies) (keeps_same (old.handle 0).bytes))
+cut_outcome status.Done script p before lines old read new end o c = absurd c
+cut_outcome status.Usage script p before lines old read new end o c = absurd c
+cut_outcome (status.BadLine l) script p before lines old read new end o c = absurd c
+cut_outcome status.TooLong script p before lines old read new end o c = absurd c
+cut_outcome (status.BadBoot l) script p before lines old read new end o c = absurd c
+
+booted_outcome : (st : Status) (script : List ℕ) (p : Part) (before : ℕ) (lines : List (List ℕ)) (old read new end : HostView) → Opened script p.devices old read new → Cut new end st ⊎ Run p before lines new end st → IsOutcome script (Booted p before lines) old end st
+booted_outcome st script p before lines old read new end o (inl c) = cut_outcome st script p before lines old read new end o c
+booted_outcome st script p before lines old read new end o (inr r) = started_outcome st script p before lines old read new r.mid end r.start o r.started r.runs
+
+-- the machine has its inputs
+pub has_inputs : (p : Part) (flat after : Option State) (ds : List DeviceLine) (old mid : HostView) (u : Unit {0}) → flat ≡ Some (boot p.config (λ _. [])) → ds ≡ p.devices → ReadsInputs 1 ds flat after old mid (Ok u) → HasInputs old 1 p.devices (boot p.config (λ _. [])) after
+has_inputs p flat after ds old mid u is same r = rw (is, same) at r.has
+
+pub inputs_writing : (ds : List DeviceLine) (flat after : Option State) (old mid : HostView) (u : Unit {0}) → ReadsInputs 1 ds flat after old mid (Ok u) → HoldsOfOutputs (IsWriting old) 1 ds → HoldsOfOutputs (IsWriting mid) 1 ds
+inputs_writing ds flat after old mid u r w = outputs_both (IsWriting old) (IsSameHandle old mid) (IsWriting mid) 1 ds (λ n h m same. ap (λ (x : HandleState). x.mode) same ∙ m) w r.outputs
+
+-- and then the events were run
+pub booted_runs : (st : Status) (p : Part) (flat after : Option State) (ds : List DeviceLine) (text : Option (List ℕ)) (step : LineStep) (line : List ℕ) (before : ℕ) (old mid new : HostView) (u : Unit {0})
+    → flat ≡ Some (boot p.config (λ _. [])) → ds ≡ p.devices → ReadsInputs 1 ds flat after old mid (Ok u) → RunsFrom after ds text step line before mid new st → RunsBooted p text step line before old new st
+booted_runs st p flat after ds None step line before old mid new u is same r runs = tt
+booted_runs st p flat after ds (Some text) step line before old mid new u is same r runs = λ lines pending.
+    let h = has_inputs p flat after ds old mid u is same r in
+    let first : RunsFrom (Some h.now) ds (Some text) step line before mid new st = rw h.is at runs in
+    let now : RunsFrom (Some h.now) p.devices (Some text) step line before mid new st = subst (λ l. RunsFrom (Some h.now) l (Some text) step line before mid new st) same first in
+    let outputs : HoldsOfOutputs (IsSameHandle old mid) 1 p.devices = subst (λ l. HoldsOfOutputs (IsSameHandle old mid) 1 l) same r.outputs in
+    inr (record {
+      start = h.now;
+      mid = mid;
+      started = record { sets = h.sets; replies = r.kept 0 (omega arith); outputs = outputs; tried = r.tried };
+      runs = now lines pending;
+    })
 
 -- the whole run, by what the host told of the script
 pub told_outcome : (E : Type 0) (st : Status) (script : List ℕ) (content told rest : Option (List ℕ)) (line : List ℕ) (p : Part) (step : LineStep) (before : ℕ) (old mid new end : HostView)

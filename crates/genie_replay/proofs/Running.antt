@@ -3,18 +3,17 @@ use Rattle.std.proofs.Common.{◌≡◌, ◌≢◌, ℕ, ◌<◌, ◌≤◌, Lis
 use Rattle.std.specs.Prelude.{Option, Some, None, Ok, Err, IfSome, IsSome}
 use Rattle.std.specs.Io.KnownBytes.{Appends}
 use Rattle.genie_base.specs.Causes.{Rose}
-use Rattle.genie_base.specs.Configs.{Config}
 use Rattle.genie_host.specs.Host.{HostView, HandleState}
 use Rattle.genie_model.specs.Flat.{sent_of}
 use Rattle.genie_model.specs.State.{State}
-use Rattle.genie_script.specs.Judge.{Numbered, Part, events_from}
+use Rattle.genie_script.specs.Judge.{Numbered, events_from}
 use Rattle.genie_script.specs.declared.line.DeviceLine.{DeviceLine}
 use Rattle.genie_replay.specs.declared.script.LineStep.{LineStep}
 use Rattle.genie_replay.specs.declared.status.Status.{Status}
 use Rattle.genie_replay.specs.declared.status.Status.TheVariants as status
-use Rattle.genie_replay.specs.Booted.{Runs, RunsAll, RunsBooted, RunsInPart}
+use Rattle.genie_replay.specs.Booted.{Runs, RunsAll, RunsFrom, RunsInPart}
 use Rattle.genie_replay.specs.Files.{HandleRose, HasSent, HasSentFront, HoldsOfOutputs, IsWriting, SameFaults, WritesFiles}
-use Rattle.genie_replay.specs.Outcome.{okay, start_of, texts}
+use Rattle.genie_replay.specs.Outcome.{okay, texts}
 use Rattle.genie_replay.specs.Plays.{Leaves, OnlyRun, Played, PlayedInPart, Plays, PlaysFrom}
 use Rattle.genie_replay.specs.Write.{WritesAll}
 use Rattle.genie_replay.proofs.Filing.{front_none, only_faults, outputs_all, outputs_map}
@@ -50,21 +49,20 @@ whole_fronts s old new ds p = outputs_map (HasSent s old new) (HasSentFront s ol
 cc_some : (s t : State) → Some s ≡ Some t → s ≡ t
 cc_some s t e = cc
 
-all_runs : (c : Config) (ds : List DeviceLine) (events : List Numbered) (s : State) (old mid after new : HostView) → Begun old mid after → Played c (start_of c) events (Some s) mid after → HoldsOfOutputs (HasSent s after new) 1 ds → new.handle 0 ≡ after.handle 0 → new.tried ≡ after.tried → RunsAll c ds events old new
-all_runs c ds events s old mid after new b p sent replies tried =
+all_runs : (start : State) (ds : List DeviceLine) (events : List Numbered) (s : State) (old mid after new : HostView) → Begun old mid after → Played start events (Some s) mid after → HoldsOfOutputs (HasSent s after new) 1 ds → new.handle 0 ≡ after.handle 0 → new.tried ≡ after.tried → RunsAll start ds events old new
+all_runs start ds events s old mid after new b p sent replies tried =
     let last : s ≡ p.last = cc_some s p.last p.machine_is in
     record {
       replies = p.replies;
       last = p.last;
       follows = p.follows;
-      built = p.built;
       written = rw replies (appends_more (old.handle 0).bytes (mid.handle 0).bytes (after.handle 0).bytes okay (texts p.replies) b.okay_written p.written);
       sent = rw (← last) (all_sent s old mid after new ds b sent);
       tried = tried ∙ b.tried;
     }
 
-part_runs : (c : Config) (ds : List DeviceLine) (events : List Numbered) (s : State) (old mid after new : HostView) → Begun old mid after → PlayedInPart (start_of c) events (Some s) mid after → HoldsOfOutputs (HasSentFront s after new) 1 ds → new.handle 0 ≡ after.handle 0 → new.tried ≡ after.tried → RunsInPart c ds events old new
-part_runs c ds events s old mid after new b p sent replies tried =
+part_runs : (start : State) (ds : List DeviceLine) (events : List Numbered) (s : State) (old mid after new : HostView) → Begun old mid after → PlayedInPart start events (Some s) mid after → HoldsOfOutputs (HasSentFront s after new) 1 ds → new.handle 0 ≡ after.handle 0 → new.tried ≡ after.tried → RunsInPart start ds events old new
+part_runs start ds events s old mid after new b p sent replies tried =
     let last : s ≡ p.last = p.machine_is in
     let w = p.written in
     record {
@@ -80,8 +78,8 @@ part_runs c ds events s old mid after new b p sent replies tried =
     }
 
 -- all that was played is a part of it
-as_part : (c : Config) (start : State) (events left : List Numbered) (machine : Option State) (old u : HostView) → Played c start events machine old u → PlayedInPart start (events ++ left) machine old u
-as_part c start events left machine old u p = record {
+as_part : (start : State) (events left : List Numbered) (machine : Option State) (old u : HostView) → Played start events machine old u → PlayedInPart start (events ++ left) machine old u
+as_part start events left machine old u p = record {
   done = events;
   left = left;
   split = refl;
@@ -93,47 +91,37 @@ as_part c start events left machine old u p = record {
 }
 
 -- the outputs were written whole
-all_filed : (st : Status) (p : Part) (before : ℕ) (lines : List (List ℕ)) (s : State) (old mid after new : HostView) (E : Type 0) (u : Unit {0}) → st ≢ status.NoMemory → Begun old mid after → Plays p.config before lines (start_of p.config) (Some s) mid after st → WritesFiles {E = E} s 1 p.devices after new (Ok u) → Runs p before lines old new st
-all_filed status.HostFault p before lines s old mid after new E u ne b q f = part_runs p.config p.devices (events_from before lines) s old mid after new b q.1 (whole_fronts s after new p.devices f.whole) (f.kept 0 (omega arith)) f.tried
-all_filed status.NoMemory p before lines s old mid after new E u ne b q f = absurd (ne refl)
-all_filed (status.NotBuilt l) p before lines s old mid after new E u ne b q f = record {
-  done = q.done;
-  next = q.next;
-  left = q.left;
-  split = q.split;
-  line = q.line;
-  unbuilt = q.unbuilt;
-  runs = all_runs p.config p.devices q.done s old mid after new b q.played f.whole (f.kept 0 (omega arith)) f.tried;
-}
-all_filed status.Done p before lines s old mid after new E u ne b q f = (q.0, all_runs p.config p.devices (events_from before lines) s old mid after new b q.1 f.whole (f.kept 0 (omega arith)) f.tried)
-all_filed status.Usage p before lines s old mid after new E u ne b q f = (q.0, all_runs p.config p.devices (events_from before lines) s old mid after new b q.1 f.whole (f.kept 0 (omega arith)) f.tried)
-all_filed (status.BadLine l) p before lines s old mid after new E u ne b q f = (q.0, all_runs p.config p.devices (events_from before lines) s old mid after new b q.1 f.whole (f.kept 0 (omega arith)) f.tried)
-all_filed status.TooLong p before lines s old mid after new E u ne b q f = (q.0, all_runs p.config p.devices (events_from before lines) s old mid after new b q.1 f.whole (f.kept 0 (omega arith)) f.tried)
-all_filed (status.BadBoot l) p before lines s old mid after new E u ne b q f = (q.0, all_runs p.config p.devices (events_from before lines) s old mid after new b q.1 f.whole (f.kept 0 (omega arith)) f.tried)
+all_filed : (st : Status) (start : State) (ds : List DeviceLine) (before : ℕ) (lines : List (List ℕ)) (s : State) (old mid after new : HostView) (E : Type 0) (u : Unit {0}) → st ≢ status.NoMemory → Begun old mid after → Plays before lines start (Some s) mid after st → WritesFiles {E = E} s 1 ds after new (Ok u) → Runs start ds before lines old new st
+all_filed status.HostFault start ds before lines s old mid after new E u ne b q f = part_runs start ds (events_from before lines) s old mid after new b q.1 (whole_fronts s after new ds f.whole) (f.kept 0 (omega arith)) f.tried
+all_filed status.NoMemory start ds before lines s old mid after new E u ne b q f = absurd (ne refl)
+all_filed status.Done start ds before lines s old mid after new E u ne b q f = (q.0, all_runs start ds (events_from before lines) s old mid after new b q.1 f.whole (f.kept 0 (omega arith)) f.tried)
+all_filed status.Usage start ds before lines s old mid after new E u ne b q f = (q.0, all_runs start ds (events_from before lines) s old mid after new b q.1 f.whole (f.kept 0 (omega arith)) f.tried)
+all_filed (status.BadLine l) start ds before lines s old mid after new E u ne b q f = (q.0, all_runs start ds (events_from before lines) s old mid after new b q.1 f.whole (f.kept 0 (omega arith)) f.tried)
+all_filed status.TooLong start ds before lines s old mid after new E u ne b q f = (q.0, all_runs start ds (events_from before lines) s old mid after new b q.1 f.whole (f.kept 0 (omega arith)) f.tried)
+all_filed (status.BadBoot l) start ds before lines s old mid after new E u ne b q f = (q.0, all_runs start ds (events_from before lines) s old mid after new b q.1 f.whole (f.kept 0 (omega arith)) f.tried)
 
-whole_part : (c : Config) (start : State) (events : List Numbered) (s : State) (mid after : HostView) → Played c start events (Some s) mid after → PlayedInPart start events (Some s) mid after
-whole_part c start events s mid after q = subst (λ es. PlayedInPart start es (Some s) mid after) (append-nil events) (as_part c start events [] (Some s) mid after q)
+whole_part : (start : State) (events : List Numbered) (s : State) (mid after : HostView) → Played start events (Some s) mid after → PlayedInPart start events (Some s) mid after
+whole_part start events s mid after q = subst (λ es. PlayedInPart start es (Some s) mid after) (append-nil events) (as_part start events [] (Some s) mid after q)
 
 -- what was played, as a part of the script's events
-some_played : (st : Status) (c : Config) (before : ℕ) (lines : List (List ℕ)) (start s : State) (mid after : HostView) → st ≢ status.NoMemory → Plays c before lines start (Some s) mid after st → PlayedInPart start (events_from before lines) (Some s) mid after
-some_played status.HostFault c before lines start s mid after ne q = q.1
-some_played status.NoMemory c before lines start s mid after ne q = absurd (ne refl)
-some_played (status.NotBuilt l) c before lines start s mid after ne q = rw q.split (as_part c start q.done (q.next ∷ q.left) (Some s) mid after q.played)
-some_played status.Done c before lines start s mid after ne q = whole_part c start (events_from before lines) s mid after q.1
-some_played status.Usage c before lines start s mid after ne q = whole_part c start (events_from before lines) s mid after q.1
-some_played (status.BadLine l) c before lines start s mid after ne q = whole_part c start (events_from before lines) s mid after q.1
-some_played status.TooLong c before lines start s mid after ne q = whole_part c start (events_from before lines) s mid after q.1
-some_played (status.BadBoot l) c before lines start s mid after ne q = whole_part c start (events_from before lines) s mid after q.1
+some_played : (st : Status) (before : ℕ) (lines : List (List ℕ)) (start s : State) (mid after : HostView) → st ≢ status.NoMemory → Plays before lines start (Some s) mid after st → PlayedInPart start (events_from before lines) (Some s) mid after
+some_played status.HostFault before lines start s mid after ne q = q.1
+some_played status.NoMemory before lines start s mid after ne q = absurd (ne refl)
+some_played status.Done before lines start s mid after ne q = whole_part start (events_from before lines) s mid after q.1
+some_played status.Usage before lines start s mid after ne q = whole_part start (events_from before lines) s mid after q.1
+some_played (status.BadLine l) before lines start s mid after ne q = whole_part start (events_from before lines) s mid after q.1
+some_played status.TooLong before lines start s mid after ne q = whole_part start (events_from before lines) s mid after q.1
+some_played (status.BadBoot l) before lines start s mid after ne q = whole_part start (events_from before lines) s mid after q.1
 
 -- an output couldn't be written
-some_filed : {E : Type 0} (st : Status) (p : Part) (before : ℕ) (lines : List (List ℕ)) (s : State) (old mid after new : HostView) (e : E) → st ≢ status.NoMemory → Begun old mid after → Plays p.config before lines (start_of p.config) (Some s) mid after st → WritesFiles s 1 p.devices after new (Err e) → Runs p before lines old new status.HostFault
-some_filed st p before lines s old mid after new e ne b q f = part_runs p.config p.devices (events_from before lines) s old mid after new b (some_played st p.config before lines (start_of p.config) s mid after ne q) f.front (f.kept 0 (omega arith)) f.tried
+some_filed : {E : Type 0} (st : Status) (start : State) (ds : List DeviceLine) (before : ℕ) (lines : List (List ℕ)) (s : State) (old mid after new : HostView) (e : E) → st ≢ status.NoMemory → Begun old mid after → Plays before lines start (Some s) mid after st → WritesFiles s 1 ds after new (Err e) → Runs start ds before lines old new status.HostFault
+some_filed st start ds before lines s old mid after new e ne b q f = part_runs start ds (events_from before lines) s old mid after new b (some_played st before lines start s mid after ne q) f.front (f.kept 0 (omega arith)) f.tried
 
 -- memory ran out among the events
-no_memory : (p : Part) (before : ℕ) (lines : List (List ℕ)) (machine : Option State) (old mid after : HostView) → Begun old mid after → PlayedInPart (start_of p.config) (events_from before lines) machine mid after → Runs p before lines old after status.NoMemory
-no_memory p before lines machine old mid after b q =
+no_memory : (start : State) (ds : List DeviceLine) (before : ℕ) (lines : List (List ℕ)) (machine : Option State) (old mid after : HostView) → Begun old mid after → PlayedInPart start (events_from before lines) machine mid after → Runs start ds before lines old after status.NoMemory
+no_memory start ds before lines machine old mid after b q =
     let w = q.written in
-    inr (record {
+    record {
       done = q.done;
       left = q.left;
       split = q.split;
@@ -141,52 +129,50 @@ no_memory p before lines machine old mid after b q =
       last = q.last;
       follows = q.follows;
       written = (okay ++ w.0, w.1, ap (λ l. okay ++ l) w.2 ∙ sym (append_assoc okay w.0 w.1), appends_more (old.handle 0).bytes (mid.handle 0).bytes (after.handle 0).bytes okay w.0 b.okay_written w.3);
-      sent = outputs_all (HasSentFront q.last old after) 1 p.devices (λ n h later. let same : after.handle h ≡ old.handle h = b.outputs h later in rw same (front_none (old.handle h).bytes (sent_of q.last n)));
+      sent = outputs_all (HasSentFront q.last old after) 1 ds (λ n h later. let same : after.handle h ≡ old.handle h = b.outputs h later in rw same (front_none (old.handle h).bytes (sent_of q.last n)));
       tried = b.tried;
-    })
+    }
 
--- the same where the host may not tell the script
+-- The same where the host may not tell the script.
 
-pub files_whole : (E : Type 0) (st : Status) (p : Part) (text : Option (List ℕ)) (step : LineStep) (line : List ℕ) (before : ℕ) (start machine : Option State) (old mid after new : HostView) (u : Unit {0})
-    → st ≢ status.NoMemory → start ≡ Some (start_of p.config) → IsSome machine → Begun old mid after → PlaysFrom start text p.config step line before machine mid after st → IfSome machine (λ s. WritesFiles {E = E} s 1 p.devices after new (Ok u)) → RunsBooted p text step line before old new st
-files_whole E st p None step line before start machine old mid after new u ne is some b q f = tt
-files_whole E st p (Some text) step line before start None old mid after new u ne is some b q f = absurd (cc)
-files_whole E st p (Some text) step line before start (Some s) old mid after new u ne is some b q f = λ lines pending.
-    let played : PlaysFrom (Some (start_of p.config)) (Some text) p.config step line before (Some s) mid after st = rw is at q in
-    all_filed st p before lines s old mid after new E u ne b (played lines pending) f
+pub files_whole : (E : Type 0) (st : Status) (ds : List DeviceLine) (text : Option (List ℕ)) (step : LineStep) (line : List ℕ) (before : ℕ) (start machine : Option State) (old mid after new : HostView) (u : Unit {0})
+    → st ≢ status.NoMemory → IsSome machine → Begun old mid after → PlaysFrom start text step line before machine mid after st → IfSome machine (λ s. WritesFiles {E = E} s 1 ds after new (Ok u)) → RunsFrom start ds text step line before old new st
+files_whole E st ds text step line before None machine old mid after new u ne some b q f = absurd q
+files_whole E st ds None step line before (Some start) machine old mid after new u ne some b q f = tt
+files_whole E st ds (Some text) step line before (Some start) None old mid after new u ne some b q f = absurd (cc)
+files_whole E st ds (Some text) step line before (Some start) (Some s) old mid after new u ne some b q f = λ lines pending. all_filed st start ds before lines s old mid after new E u ne b (q lines pending) f
 
-pub files_cut : {E : Type 0} (st : Status) (p : Part) (text : Option (List ℕ)) (step : LineStep) (line : List ℕ) (before : ℕ) (start machine : Option State) (old mid after new : HostView) (e : E)
-    → st ≢ status.NoMemory → start ≡ Some (start_of p.config) → IsSome machine → Begun old mid after → PlaysFrom start text p.config step line before machine mid after st → IfSome machine (λ s. WritesFiles s 1 p.devices after new (Err e)) → RunsBooted p text step line before old new status.HostFault
-files_cut st p None step line before start machine old mid after new e ne is some b q f = tt
-files_cut st p (Some text) step line before start None old mid after new e ne is some b q f = absurd (cc)
-files_cut st p (Some text) step line before start (Some s) old mid after new e ne is some b q f = λ lines pending.
-    let played : PlaysFrom (Some (start_of p.config)) (Some text) p.config step line before (Some s) mid after st = rw is at q in
-    some_filed st p before lines s old mid after new e ne b (played lines pending) f
+pub files_cut : {E : Type 0} (st : Status) (ds : List DeviceLine) (text : Option (List ℕ)) (step : LineStep) (line : List ℕ) (before : ℕ) (start machine : Option State) (old mid after new : HostView) (e : E)
+    → st ≢ status.NoMemory → IsSome machine → Begun old mid after → PlaysFrom start text step line before machine mid after st → IfSome machine (λ s. WritesFiles s 1 ds after new (Err e)) → RunsFrom start ds text step line before old new status.HostFault
+files_cut st ds text step line before None machine old mid after new e ne some b q f = absurd q
+files_cut st ds None step line before (Some start) machine old mid after new e ne some b q f = tt
+files_cut st ds (Some text) step line before (Some start) None old mid after new e ne some b q f = absurd (cc)
+files_cut st ds (Some text) step line before (Some start) (Some s) old mid after new e ne some b q f = λ lines pending. some_filed st start ds before lines s old mid after new e ne b (q lines pending) f
 
-pub memory_out : (p : Part) (text : Option (List ℕ)) (step : LineStep) (line : List ℕ) (before : ℕ) (start machine : Option State) (old mid after : HostView)
-    → start ≡ Some (start_of p.config) → Begun old mid after → PlaysFrom start text p.config step line before machine mid after status.NoMemory → RunsBooted p text step line before old after status.NoMemory
-memory_out p None step line before start machine old mid after is b q = tt
-memory_out p (Some text) step line before start machine old mid after is b q = λ lines pending.
-    let played : PlaysFrom (Some (start_of p.config)) (Some text) p.config step line before machine mid after status.NoMemory = rw is at q in
-    no_memory p before lines machine old mid after b (played lines pending)
+pub memory_out : (ds : List DeviceLine) (text : Option (List ℕ)) (step : LineStep) (line : List ℕ) (before : ℕ) (start machine : Option State) (old mid after : HostView)
+    → Begun old mid after → PlaysFrom start text step line before machine mid after status.NoMemory → RunsFrom start ds text step line before old after status.NoMemory
+memory_out ds text step line before None machine old mid after b q = absurd q
+memory_out ds None step line before (Some start) machine old mid after b q = tt
+memory_out ds (Some text) step line before (Some start) machine old mid after b q = λ lines pending. no_memory start ds before lines machine old mid after b (q lines pending)
 
 -- `ok` was written in part, and no event was stepped
-okay_runs : {E : Type 0} (p : Part) (before : ℕ) (lines : List (List ℕ)) (old mid : HostView) (e : E) → WritesAll 0 old mid (Err e) okay → Runs p before lines old mid status.HostFault
-okay_runs p before lines old mid e w = record {
+okay_runs : {E : Type 0} (start : State) (ds : List DeviceLine) (before : ℕ) (lines : List (List ℕ)) (old mid : HostView) (e : E) → WritesAll 0 old mid (Err e) okay → Runs start ds before lines old mid status.HostFault
+okay_runs start ds before lines old mid e w = record {
   done = [];
   left = events_from before lines;
   split = refl;
   replies = [];
-  last = start_of p.config;
+  last = start;
   follows = refl;
   written = w.front;
-  sent = outputs_all (HasSentFront (start_of p.config) old mid) 1 p.devices (λ n h later. let same : mid.handle h ≡ old.handle h = w.only.others h (λ x. omega (arith, x, later)) in rw same (front_none (old.handle h).bytes (sent_of (start_of p.config) n)));
+  sent = outputs_all (HasSentFront start old mid) 1 ds (λ n h later. let same : mid.handle h ≡ old.handle h = w.only.others h (λ x. omega (arith, x, later)) in rw same (front_none (old.handle h).bytes (sent_of start n)));
   tried = w.only.tried;
 }
 
-pub okay_cut : {E : Type 0} (p : Part) (text : Option (List ℕ)) (step : LineStep) (line : List ℕ) (before : ℕ) (old mid : HostView) (e : E) → WritesAll 0 old mid (Err e) okay → RunsBooted p text step line before old mid status.HostFault
-okay_cut p None step line before old mid e w = tt
-okay_cut p (Some text) step line before old mid e w = λ lines pending. okay_runs p before lines old mid e w
+pub okay_cut : {E : Type 0} (ds : List DeviceLine) (text : Option (List ℕ)) (step : LineStep) (line : List ℕ) (before : ℕ) (start : Option State) (old mid : HostView) (e : E) → IsSome start → WritesAll 0 old mid (Err e) okay → RunsFrom start ds text step line before old mid status.HostFault
+okay_cut ds text step line before None old mid e some w = absurd (cc)
+okay_cut ds None step line before (Some start) old mid e some w = tt
+okay_cut ds (Some text) step line before (Some start) old mid e some w = λ lines pending. okay_runs start ds before lines old mid e w
 
 -- the counts of faults of a whole run
 pub failed_run : (E : Type 0) (st : Status) (old mid after new : HostView) (u : Unit {0}) → WritesAll {E = E} 0 old mid (Ok u) okay → Leaves st mid after → SameFaults after new → st ≡ status.HostFault → HandleRose old new

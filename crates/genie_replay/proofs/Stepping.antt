@@ -18,9 +18,8 @@ use Rattle.genie_script.specs.Judge.{Numbered}
 use Rattle.genie_script.specs.Spelling.{reply_text}
 use Rattle.genie_script.specs.declared.judge.Judged.{Judged}
 use Rattle.genie_script.specs.declared.judge.Judged.TheVariants.{Passed, Taken, Ends}
-use Rattle.genie_replay.specs.Built.{is_built}
 use Rattle.genie_replay.specs.Files.{SameFaults}
-use Rattle.genie_replay.specs.Outcome.{AreBuilt, events_of, texts}
+use Rattle.genie_replay.specs.Outcome.{events_of, texts}
 use Rattle.genie_replay.specs.Plays.{IsFirst, LaterFaults, OnlyRun}
 use Rattle.genie_replay.specs.Serving.{Served, TakesLine, TakesLineFrom, Untouched, plain_step}
 use Rattle.genie_replay.proofs.Filing.{only_faults, same_faults, same_trans}
@@ -43,9 +42,6 @@ pub texts_more : (rs : List Reply) (r : Reply) → texts (rs ++ r ∷ []) ≡ te
 texts_more [] r = append-nil (reply_text r)
 texts_more (x ∷ rs) r = ap (λ l. reply_text x ++ l) (texts_more rs r) ∙ sym (append_assoc (reply_text x) (texts rs) (reply_text r))
 
-built_more : (c : Config) (done : List Numbered) (n : Numbered) → AreBuilt c done → is_built c n.1 ≡ true → AreBuilt c (done ++ n ∷ [])
-built_more c done n built is = All-append (λ (m : Numbered). IsTrue (is_built c m.1)) done (n ∷ []) built (All-cons (λ (m : Numbered). IsTrue (is_built c m.1)) n [] is (All-nil (λ (m : Numbered). IsTrue (is_built c m.1))))
-
 only_none : (v : HostView) → OnlyRun v v
 only_none v = record { others = λ k z o. refl; tried = refl }
 
@@ -66,14 +62,13 @@ later_only h u v only later = λ k. elim (k == h) as (λ b. (k == h) ≡ b → (
 ] refl
 
 -- a run so far: what was stepped and written, and, by what is done, what is left
-pub record SoFar (c : Config) (start machine : Option State) (old now : HostView) (at : ℕ) (Left : List Numbered → Type 0) : Type 0 where
+pub record SoFar (start machine : Option State) (old now : HostView) (at : ℕ) (Left : List Numbered → Type 0) : Type 0 where
   pub first : State
   pub start_is : start ≡ Some first
   pub done : List Numbered
   pub replies : List Reply
   pub last : State
   pub follows : Follows first (events_of done) replies last
-  pub built : AreBuilt c done
   pub machine_is : machine ≡ Some last
   pub number : last.next ≤ at + 1
   pub written : Appends (old.handle 0).bytes (now.handle 0).bytes (texts replies)
@@ -82,15 +77,14 @@ pub record SoFar (c : Config) (start machine : Option State) (old now : HostView
   pub faults : SameFaults old now
   pub left : Left done
 
-so_far_start : (c : Config) (s : State) (v : HostView) (before : ℕ) (Left : List Numbered → Type 0) → IsFirst s → Left [] → SoFar c (Some s) (Some s) v v before Left
-so_far_start c s v before Left first left = record {
+so_far_start : (s : State) (v : HostView) (before : ℕ) (Left : List Numbered → Type 0) → IsFirst s → Left [] → SoFar (Some s) (Some s) v v before Left
+so_far_start s v before Left first left = record {
   first = s;
   start_is = refl;
   done = [];
   replies = [];
   last = s;
   follows = refl;
-  built = All-nil (λ (m : Numbered). IsTrue (is_built c m.1));
   machine_is = refl;
   number = omega (arith, first);
   written = appends_nothing (v.handle 0).bytes;
@@ -100,14 +94,14 @@ so_far_start c s v before Left first left = record {
   left = left;
 }
 
-pub so_far_none : (c : Config) (start : Option State) (v : HostView) (before : ℕ) (Left : List Numbered → Type 0) → IsSome start → IfSome start IsFirst → Left [] → SoFar c start start v v before Left
-so_far_none c None v before Left some first left = absurd (cc)
-so_far_none c (Some s) v before Left some first left = so_far_start c s v before Left first left
+pub so_far_none : (start : Option State) (v : HostView) (before : ℕ) (Left : List Numbered → Type 0) → IsSome start → IfSome start IsFirst → Left [] → SoFar start start v v before Left
+so_far_none None v before Left some first left = absurd (cc)
+so_far_none (Some s) v before Left some first left = so_far_start s v before Left first left
 
 -- a line was read
-pub so_read : (c : Config) (start machine : Option State) (old u w : HostView) (at : ℕ) (Left Next : List Numbered → Type 0)
-    → SoFar c start machine old u at Left → OnlyHandle 1 u w → (w.handle 1).faults ≡ (u.handle 1).faults → ((done : List Numbered) → Left done → Next done) → SoFar c start machine old w at Next
-so_read c start machine old u w at Left Next so only count f =
+pub so_read : (start machine : Option State) (old u w : HostView) (at : ℕ) (Left Next : List Numbered → Type 0)
+    → SoFar start machine old u at Left → OnlyHandle 1 u w → (w.handle 1).faults ≡ (u.handle 1).faults → ((done : List Numbered) → Left done → Next done) → SoFar start machine old w at Next
+so_read start machine old u w at Left Next so only count f =
     let replies : w.handle 0 ≡ u.handle 0 = only.others 0 (λ e. cc) in
     record {
       first = so.first;
@@ -116,7 +110,6 @@ so_read c start machine old u w at Left Next so only count f =
       replies = so.replies;
       last = so.last;
       follows = so.follows;
-      built = so.built;
       machine_is = so.machine_is;
       number = so.number;
       written = rw replies so.written;
@@ -127,9 +120,9 @@ so_read c start machine old u w at Left Next so only count f =
     }
 
 -- a blank line was passed
-so_passed : (c : Config) (start machine after : Option State) (old u w : HostView) (at : ℕ) (Left Next : List Numbered → Type 0)
-    → (so : SoFar c start machine old u at Left) → Untouched so.last after u w → Next so.done → SoFar c start after old w (at + 1) Next
-so_passed c start machine after old u w at Left Next so t next =
+so_passed : (start machine after : Option State) (old u w : HostView) (at : ℕ) (Left Next : List Numbered → Type 0)
+    → (so : SoFar start machine old u at Left) → Untouched so.last after u w → Next so.done → SoFar start after old w (at + 1) Next
+so_passed start machine after old u w at Left Next so t next =
     let number : so.last.next ≤ at + 1 = so.number in
     rw (t.host, t.machine_is) (record {
       first = so.first;
@@ -138,7 +131,6 @@ so_passed c start machine after old u w at Left Next so t next =
       replies = so.replies;
       last = so.last;
       follows = so.follows;
-      built = so.built;
       machine_is = refl;
       number = omega arith;
       written = so.written;
@@ -149,9 +141,9 @@ so_passed c start machine after old u w at Left Next so t next =
     })
 
 -- an event was stepped
-so_stepped : (c : Config) (start machine after : Option State) (old u w : HostView) (at : ℕ) (Left Next : List Numbered → Type 0) (e : Event) (x : Unit {0})
-    → (so : SoFar c start machine old u at Left) → is_built c e ≡ true → Served so.last e after u w (Ok x) → Next (so.done ++ (at + 1, e) ∷ []) → SoFar c start after old w (at + 1) Next
-so_stepped c start machine after old u w at Left Next e x so built t next =
+so_stepped : (start machine after : Option State) (old u w : HostView) (at : ℕ) (Left Next : List Numbered → Type 0) (e : Event) (x : Unit {0})
+    → (so : SoFar start machine old u at Left) → Served so.last e after u w (Ok x) → Next (so.done ++ (at + 1, e) ∷ []) → SoFar start after old w (at + 1) Next
+so_stepped start machine after old u w at Left Next e x so t next =
     let grows : Grows so.last (plain_step so.last e).0 = steps_grow so.last e NoFault in
     let rises : (plain_step so.last e).0.next ≤ so.last.next + 1 = grows.next in
     let number : so.last.next ≤ at + 1 = so.number in
@@ -163,7 +155,6 @@ so_stepped c start machine after old u w at Left Next e x so built t next =
       replies = so.replies ++ (plain_step so.last e).1 ∷ [];
       last = (plain_step so.last e).0;
       follows = rw (events_more so.done (at + 1, e)) (follows_more so.first (events_of so.done) so.replies so.last e so.follows);
-      built = built_more c so.done (at + 1, e) so.built built;
       machine_is = t.machine_is;
       number = omega arith;
       written = rw texts_more (appends_more (old.handle 0).bytes (u.handle 0).bytes (w.handle 0).bytes (texts so.replies) (reply_text (plain_step so.last e).1) so.written t.reply.whole);
@@ -173,29 +164,29 @@ so_stepped c start machine after old u w at Left Next e x so built t next =
       left = next;
     }
 
-line_taken : (judged : Judged Event) (c : Config) (start machine after : Option State) (old u w : HostView) (at : ℕ) (Left Next : List Numbered → Type 0) (x : Unit {0})
-    → (so : SoFar c start machine old u at Left) → TakesLine judged c so.last after u w (Ok x)
+line_taken : (judged : Judged Event) (start machine after : Option State) (old u w : HostView) (at : ℕ) (Left Next : List Numbered → Type 0) (x : Unit {0})
+    → (so : SoFar start machine old u at Left) → TakesLine judged so.last after u w (Ok x)
     → (Passed ≡ judged → Next so.done) → ((e : Event) → Taken e ≡ judged → Next (so.done ++ (at + 1, e) ∷ []))
-    → SoFar c start after old w (at + 1) Next
-line_taken Passed c start machine after old u w at Left Next x so t passed taken = so_passed c start machine after old u w at Left Next so t (passed refl)
-line_taken (Taken e) c start machine after old u w at Left Next x so t passed taken = so_stepped c start machine after old u w at Left Next e x so t.0 t.1 (taken e refl)
-line_taken (Ends e) c start machine after old u w at Left Next x so t passed taken = absurd t
+    → SoFar start after old w (at + 1) Next
+line_taken Passed start machine after old u w at Left Next x so t passed taken = so_passed start machine after old u w at Left Next so t (passed refl)
+line_taken (Taken e) start machine after old u w at Left Next x so t passed taken = so_stepped start machine after old u w at Left Next e x so t (taken e refl)
+line_taken (Ends e) start machine after old u w at Left Next x so t passed taken = absurd t
 
 -- a line was taken
-pub so_taken : (judged : Judged Event) (c : Config) (start machine after : Option State) (old u w : HostView) (at : ℕ) (Left Next : List Numbered → Type 0) (x : Unit {0})
-    → SoFar c start machine old u at Left → TakesLineFrom judged c machine after u w (Ok x)
+pub so_taken : (judged : Judged Event) (start machine after : Option State) (old u w : HostView) (at : ℕ) (Left Next : List Numbered → Type 0) (x : Unit {0})
+    → SoFar start machine old u at Left → TakesLineFrom judged machine after u w (Ok x)
     → ((done : List Numbered) → Left done → Passed ≡ judged → Next done) → ((done : List Numbered) (e : Event) → Left done → Taken e ≡ judged → Next (done ++ (at + 1, e) ∷ []))
-    → SoFar c start after old w (at + 1) Next
-so_taken judged c start machine after old u w at Left Next x so t passed taken =
-    let told : TakesLine judged c so.last after u w (Ok x) = rw so.machine_is at t in
-    line_taken judged c start machine after old u w at Left Next x so told (λ e. passed so.done so.left e) (λ ev e. taken so.done ev so.left e)
+    → SoFar start after old w (at + 1) Next
+so_taken judged start machine after old u w at Left Next x so t passed taken =
+    let told : TakesLine judged so.last after u w (Ok x) = rw so.machine_is at t in
+    line_taken judged start machine after old u w at Left Next x so told (λ e. passed so.done so.left e) (λ ev e. taken so.done ev so.left e)
 
-line_kept : (judged : Judged Event) (c : Config) (s : State) (after : Option State) (u w : HostView) (x : Unit {0}) → TakesLine judged c s after u w (Ok x) → w.handle 1 ≡ u.handle 1
-line_kept Passed c s after u w x t = rw t.host refl
-line_kept (Taken e) c s after u w x t = t.1.reply.only.others 1 (λ k. cc)
-line_kept (Ends e) c s after u w x t = absurd t
+line_kept : (judged : Judged Event) (s : State) (after : Option State) (u w : HostView) (x : Unit {0}) → TakesLine judged s after u w (Ok x) → w.handle 1 ≡ u.handle 1
+line_kept Passed s after u w x t = rw t.host refl
+line_kept (Taken e) s after u w x t = t.reply.only.others 1 (λ k. cc)
+line_kept (Ends e) s after u w x t = absurd t
 
 -- a line's step leaves the script
-pub script_kept : (judged : Judged Event) (c : Config) (machine after : Option State) (u w : HostView) (x : Unit {0}) → TakesLineFrom judged c machine after u w (Ok x) → w.handle 1 ≡ u.handle 1
-script_kept judged c None after u w x t = absurd t
-script_kept judged c (Some s) after u w x t = line_kept judged c s after u w x t
+pub script_kept : (judged : Judged Event) (machine after : Option State) (u w : HostView) (x : Unit {0}) → TakesLineFrom judged machine after u w (Ok x) → w.handle 1 ≡ u.handle 1
+script_kept judged None after u w x t = absurd t
+script_kept judged (Some s) after u w x t = line_kept judged s after u w x t

@@ -4,7 +4,7 @@ use Rattle.std.specs.Io.KnownBytes.{Appends, Keeps}
 use Rattle.genie_base.specs.Causes.{Rose}
 use Rattle.genie_base.specs.declared.semantics.Direction.{Direction}
 use Rattle.genie_base.specs.declared.semantics.Direction.TheVariants.{Inward, Outward}
-use Rattle.genie_host.specs.Host.{HostView, HandleState, Writing, empty_told}
+use Rattle.genie_host.specs.Host.{HostView, HandleState, Reading, Writing, empty_told}
 use Rattle.genie_model.specs.Flat.{sent_of}
 use Rattle.genie_model.specs.State.{State}
 use Rattle.genie_script.specs.declared.line.DeviceLine.{DeviceLine}
@@ -30,6 +30,16 @@ abbrev pub HoldsOfOutputs : (ℕ → ℕ → Type 0) → ℕ → List DeviceLine
 HoldsOfOutputs P opened [] = ⊤
 HoldsOfOutputs P opened (d ∷ devices) = HoldsOfFile P d.output d.number (opened + length (openings_of d)) × HoldsOfOutputs P (opened + length (openings_of d)) devices
 
+-- P holds of the name and the handle, where there is an input
+abbrev pub HoldsOfInput : (List ℕ → ℕ → Type 0) → Option (List ℕ) → ℕ → Type 0
+HoldsOfInput P None handle = ⊤
+HoldsOfInput P (Some name) handle = P name handle
+
+-- the same for the inputs: that of a line is the first file that it opens
+abbrev pub HoldsOfInputs : (List ℕ → ℕ → Type 0) → ℕ → List DeviceLine → Type 0
+HoldsOfInputs P opened [] = ⊤
+HoldsOfInputs P opened (d ∷ devices) = HoldsOfInput P d.input (opened + 1) × HoldsOfInputs P (opened + length (openings_of d)) devices
+
 -- the handles up to this one are as before
 abbrev pub KeptUpTo : ℕ → HostView → HostView → Type 0
 KeptUpTo most old new = (k : ℕ) → k ≤ most → new.handle k ≡ old.handle k
@@ -43,6 +53,7 @@ pub record SameFaults (old new : HostView) : Type 0 where
 pub record OpensAll (openings : List (List ℕ × Direction)) (old new : HostView) : Type 0 where
   pub tried : new.tried ≡ old.tried ++ openings
   pub opened : new.opened ≡ old.opened + length openings
+  pub names : new.names ≡ old.names
   pub faults : SameFaults old new
 
 -- a fresh writing handle: nothing was written, told where the replies are
@@ -52,6 +63,20 @@ pub record IsFreshOutput (replies : Option (List ℕ)) (handle : HandleState) : 
 
 abbrev pub IsFresh : HostView → HostView → ℕ → ℕ → Type 0
 IsFresh old new number handle = IsFreshOutput (old.handle 0).bytes (new.handle handle)
+
+-- a fresh reading handle: all bytes of the file are left, told where they are
+pub record IsFreshInput (content : Option (List ℕ)) (handle : HandleState) : Type 0 where
+  pub mode : handle.mode ≡ Reading
+  pub whole : Keeps content handle.bytes
+
+abbrev pub IsFreshFor : HostView → HostView → List ℕ → ℕ → Type 0
+IsFreshFor old new name handle = IsFreshInput (old.names name) (new.handle handle)
+
+abbrev pub IsReading : HostView → List ℕ → ℕ → Type 0
+IsReading host name handle = (host.handle handle).mode ≡ Reading
+
+abbrev pub IsSameHandle : HostView → HostView → ℕ → ℕ → Type 0
+IsSameHandle old new number handle = new.handle handle ≡ old.handle handle
 
 -- opening files: those that were open stay as they are, and a failure has its cause
 pub record Opening {E T : Type 0} (failed : E) (old new : HostView) (result : Result T E) : Type 0 where

@@ -1,7 +1,7 @@
 pub mod Booted
 pub mod Booting
-pub mod Built
 pub mod Files
+pub mod Inputs
 pub mod Lines
 pub mod Outcome
 pub mod Plays

@@ -9,16 +9,16 @@ use Rattle.genie_base.specs.declared.semantics.Direction.{Direction}
 use Rattle.genie_base.specs.declared.semantics.Direction.TheVariants.{Inward}
 use Rattle.genie_host.specs.Host.{HostView, empty_told}
 use Rattle.genie_model.specs.Flat.{sent_of}
-use Rattle.genie_model.specs.State.{State, boot}
+use Rattle.genie_model.specs.State.{State}
 use Rattle.genie_model.specs.Step.{Follows}
 use Rattle.genie_script.specs.Judge.{Boot, Refused, Booted, Numbered, boot_part, events_from, ending_from}
 use Rattle.genie_script.specs.Spelling.{reply_text}
 use Rattle.genie_script.specs.Texts.{lines_of}
 use Rattle.genie_script.specs.declared.line.DeviceLine.{DeviceLine}
 use Rattle.genie_replay.specs.declared.status.Status.{Status}
-use Rattle.genie_replay.specs.declared.status.Status.TheVariants.{HostFault, NoMemory, NotBuilt}
-use Rattle.genie_replay.specs.Built.{is_built}
+use Rattle.genie_replay.specs.declared.status.Status.TheVariants.{HostFault, NoMemory}
 use Rattle.genie_replay.specs.Files.{HandleRose, HoldsOfOutputs, openings_of}
+use Rattle.genie_replay.specs.Inputs.{IsBoot}
 use Rattle.genie_replay.specs.Statuses.{status_of}
 use Rattle.genie_replay.specs.Write.{AppendsFront}
 
@@ -42,9 +42,6 @@ okay = codes "ok" ++ 10 ∷ []
 abbrev pub events_of : List Numbered → List Event
 events_of events = map (λ (n : Numbered). n.1) events
 
-abbrev pub AreBuilt : Config → List Numbered → Type 0
-AreBuilt c events = All (λ (n : Numbered). IsTrue (is_built c n.1)) events
-
 -- the openings of a run that came to its events: the script, and then the devices' files in the order of their lines
 abbrev pub openings : List ℕ → List DeviceLine → List (List ℕ × Direction)
 openings script devices = (script, Inward) ∷ flat_map openings_of devices
@@ -56,16 +53,14 @@ HasAll s old new number handle = Appends (empty_told (old.handle 0).bytes) (new.
 abbrev pub HasFront : State → HostView → HostView → ℕ → ℕ → Type 0
 HasFront s old new number handle = AppendsFront (empty_told (old.handle 0).bytes) (new.handle handle).bytes (sent_of s number)
 
-abbrev pub start_of : Config → State
-start_of c = boot c (λ _. [])
-
--- All of these events were stepped: the replies to them were written after the one to the boot part, and each output has
+-- All of these events were stepped from the boot on: the replies to them were written after the one to the boot part, and each output has
 -- what its device sent.
 pub record Ran (script : List ℕ) (c : Config) (devices : List DeviceLine) (events : List Numbered) (old new : HostView) : Type 0 where
+  pub start : State
+  pub begins : IsBoot old.names c devices start
   pub replies : List Reply
   pub last : State
-  pub follows : Follows (start_of c) (events_of events) replies last
-  pub built : AreBuilt c events
+  pub follows : Follows start (events_of events) replies last
   pub written : Appends (old.handle 0).bytes (new.handle 0).bytes (okay ++ texts replies)
   pub sent : HoldsOfOutputs (HasAll last old new) 1 devices
   pub tried : new.tried ≡ old.tried ++ openings script devices
@@ -75,22 +70,14 @@ pub record RanInPart (script : List ℕ) (c : Config) (devices : List DeviceLine
   pub done : List Numbered
   pub left : List Numbered
   pub split : events ≡ done ++ left
+  pub start : State
+  pub begins : IsBoot old.names c devices start
   pub replies : List Reply
   pub last : State
-  pub follows : Follows (start_of c) (events_of done) replies last
+  pub follows : Follows start (events_of done) replies last
   pub written : AppendsFront (old.handle 0).bytes (new.handle 0).bytes (okay ++ texts replies)
   pub sent : HoldsOfOutputs (HasFront last old new) 1 devices
   pub tried : new.tried ≡ old.tried ++ openings script devices
-
--- The events before the first one that isn't built were stepped; it stands in line l.
-pub record RanToUnbuilt (script : List ℕ) (c : Config) (devices : List DeviceLine) (events : List Numbered) (l : ℕ) (old new : HostView) : Type 0 where
-  pub done : List Numbered
-  pub next : Numbered
-  pub left : List Numbered
-  pub split : events ≡ done ++ next ∷ left
-  pub line : next.0 ≡ l
-  pub unbuilt : is_built c next.1 ≡ false
-  pub ran : Ran script c devices done old new
 
 -- no reply was written
 abbrev pub WroteNothing : HostView → HostView → Type 0
@@ -107,9 +94,6 @@ IsOutcome script (Refused ending) old new HostFault = WroteNothing old new
 IsOutcome script (Refused ending) old new NoMemory = WroteNothing old new
 IsOutcome script (Booted part before lines) old new HostFault = WroteNothing old new ⊎ RanInPart script part.config part.devices (events_from before lines) old new
 IsOutcome script (Booted part before lines) old new NoMemory = WroteNothing old new ⊎ RanInPart script part.config part.devices (events_from before lines) old new
--- a run that an event cut short which isn't built
-IsOutcome script (Refused ending) old new (NotBuilt l) = ⊥
-IsOutcome script (Booted part before lines) old new (NotBuilt l) = RanToUnbuilt script part.config part.devices (events_from before lines) l old new
 -- every other run ends as the script does
 IsOutcome script (Refused ending) old new status = (status ≡ status_of ending) × RanNothing script old new
 IsOutcome script (Booted part before lines) old new status = (status ≡ status_of (ending_from before lines)) × Ran script part.config part.devices (events_from before lines) old new

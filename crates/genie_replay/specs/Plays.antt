@@ -1,7 +1,6 @@
 -- What the run of the lines behind the boot part does.
 use Rattle.std.specs.Prelude.{◌≡◌, ◌≢◌, ◌≤◌, ℕ, IsSome, IfSome, false, List, ◌∷◌, ◌++◌, Option, None, Some, ⊤}
 use Rattle.std.specs.Io.KnownBytes.{Appends}
-use Rattle.genie_base.specs.Configs.{Config}
 use Rattle.genie_base.specs.declared.reply.Reply.{Reply}
 use Rattle.genie_host.specs.Host.{HostView}
 use Rattle.genie_model.specs.State.{State}
@@ -9,11 +8,10 @@ use Rattle.genie_model.specs.Step.{Follows}
 use Rattle.genie_script.specs.Judge.{Numbered, events_from, ending_from}
 use Rattle.genie_replay.specs.declared.script.LineStep.{LineStep}
 use Rattle.genie_replay.specs.declared.status.Status.{Status}
-use Rattle.genie_replay.specs.declared.status.Status.TheVariants.{HostFault, NoMemory, NotBuilt}
-use Rattle.genie_replay.specs.Built.{is_built}
+use Rattle.genie_replay.specs.declared.status.Status.TheVariants.{HostFault, NoMemory}
 use Rattle.genie_replay.specs.Files.{HandleRose, SameFaults}
 use Rattle.genie_replay.specs.Lines.{IsPending}
-use Rattle.genie_replay.specs.Outcome.{AreBuilt, events_of, texts}
+use Rattle.genie_replay.specs.Outcome.{events_of, texts}
 use Rattle.genie_replay.specs.Statuses.{status_of}
 use Rattle.genie_replay.specs.Write.{AppendsFront}
 
@@ -35,11 +33,10 @@ pub record Leaves (status : Status) (old new : HostView) : Type 0 where
   pub cause : status ≡ HostFault → HandleRose old new
 
 -- all of these events were stepped, and their replies were written
-pub record Played (c : Config) (start : State) (events : List Numbered) (machine : Option State) (old new : HostView) : Type 0 where
+pub record Played (start : State) (events : List Numbered) (machine : Option State) (old new : HostView) : Type 0 where
   pub replies : List Reply
   pub last : State
   pub follows : Follows start (events_of events) replies last
-  pub built : AreBuilt c events
   pub machine_is : machine ≡ Some last
   pub written : Appends (old.handle 0).bytes (new.handle 0).bytes (texts replies)
 
@@ -54,30 +51,19 @@ pub record PlayedInPart (start : State) (events : List Numbered) (machine : Opti
   pub machine_is : IfSome machine (λ s. s ≡ last)
   pub written : AppendsFront (old.handle 0).bytes (new.handle 0).bytes (texts replies)
 
--- the events before the first one that isn't built were stepped; it stands in line l
-pub record PlayedToUnbuilt (c : Config) (start : State) (events : List Numbered) (l : ℕ) (machine : Option State) (old new : HostView) : Type 0 where
-  pub done : List Numbered
-  pub next : Numbered
-  pub left : List Numbered
-  pub split : events ≡ done ++ next ∷ left
-  pub line : next.0 ≡ l
-  pub unbuilt : is_built c next.1 ≡ false
-  pub played : Played c start done machine old new
-
-abbrev pub Plays : Config → ℕ → List (List ℕ) → State → Option State → HostView → HostView → Status → Type 0
-Plays c before lines start machine old new HostFault = IsSome machine × PlayedInPart start (events_from before lines) machine old new
-Plays c before lines start machine old new NoMemory = PlayedInPart start (events_from before lines) machine old new
-Plays c before lines start machine old new (NotBuilt l) = PlayedToUnbuilt c start (events_from before lines) l machine old new
-Plays c before lines start machine old new status = (status ≡ status_of (ending_from before lines)) × Played c start (events_from before lines) machine old new
+abbrev pub Plays : ℕ → List (List ℕ) → State → Option State → HostView → HostView → Status → Type 0
+Plays before lines start machine old new HostFault = IsSome machine × PlayedInPart start (events_from before lines) machine old new
+Plays before lines start machine old new NoMemory = PlayedInPart start (events_from before lines) machine old new
+Plays before lines start machine old new status = (status ≡ status_of (ending_from before lines)) × Played start (events_from before lines) machine old new
 
 -- where the host tells what is left of the script: the line that was read, and the text behind it
-abbrev pub PlaysOf : Option (List ℕ) → Config → LineStep → List ℕ → ℕ → State → Option State → HostView → HostView → Status → Type 0
-PlaysOf None c step line before start machine old new status = ⊤
-PlaysOf (Some text) c step line before start machine old new status = (lines : List (List ℕ)) → IsPending lines step line text → Plays c before lines start machine old new status
+abbrev pub PlaysOf : Option (List ℕ) → LineStep → List ℕ → ℕ → State → Option State → HostView → HostView → Status → Type 0
+PlaysOf None step line before start machine old new status = ⊤
+PlaysOf (Some text) step line before start machine old new status = (lines : List (List ℕ)) → IsPending lines step line text → Plays before lines start machine old new status
 
-abbrev pub PlaysFrom : Option State → Option (List ℕ) → Config → LineStep → List ℕ → ℕ → Option State → HostView → HostView → Status → Type 0
-PlaysFrom None text c step line before machine old new status = ⊥
-PlaysFrom (Some start) text c step line before machine old new status = PlaysOf text c step line before start machine old new status
+abbrev pub PlaysFrom : Option State → Option (List ℕ) → LineStep → List ℕ → ℕ → Option State → HostView → HostView → Status → Type 0
+PlaysFrom None text step line before machine old new status = ⊥
+PlaysFrom (Some start) text step line before machine old new status = PlaysOf text step line before start machine old new status
 
 -- a machine that has just been booted
 abbrev pub IsFirst : State → Type 0

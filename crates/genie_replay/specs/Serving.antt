@@ -1,6 +1,5 @@
 -- What stepping one event, and one line, does to the machine and to the host.
 use Rattle.std.specs.Prelude.{◌≡◌, true, false, Option, None, Some, Result, Ok, Err}
-use Rattle.genie_base.specs.Configs.{Config}
 use Rattle.genie_base.specs.declared.event.Event.{Event}
 use Rattle.genie_base.specs.declared.reply.Mark.TheVariants.{NoFault}
 use Rattle.genie_host.specs.Host.{HostView}
@@ -10,8 +9,7 @@ use Rattle.genie_script.specs.Spelling.{reply_text}
 use Rattle.genie_script.specs.declared.judge.Judged.{Judged}
 use Rattle.genie_script.specs.declared.judge.Judged.TheVariants.{Passed, Taken, Ends}
 use Rattle.genie_replay.specs.declared.serving.Stop.{Stop}
-use Rattle.genie_replay.specs.declared.serving.Stop.TheVariants.{Host, Memory, Ended, NotBuilt}
-use Rattle.genie_replay.specs.Built.{is_built}
+use Rattle.genie_replay.specs.declared.serving.Stop.TheVariants.{Host, Memory, Ended}
 use Rattle.genie_replay.specs.Write.{WritesAll}
 
 -- the step of an event where nothing fails
@@ -29,7 +27,6 @@ Serves s e machine old new (Ok u) = Served s e machine old new (Ok u)
 Serves s e machine old new (Err Host) = Served s e machine old new (Err Host)
 Serves s e machine old new (Err Memory) = (machine ≡ None) × (new ≡ old)
 Serves s e machine old new (Err (Ended ending)) = ⊥
-Serves s e machine old new (Err NotBuilt) = ⊥
 
 abbrev pub ServesFrom : Option State → Event → Option State → HostView → HostView → Result (Unit {0}) Stop → Type 0
 ServesFrom None e machine old new result = ⊥
@@ -41,15 +38,14 @@ pub record Untouched (s : State) (machine : Option State) (old new : HostView) :
   pub host : new ≡ old
 
 -- what a line's step does, by what the line says
-abbrev pub TakesLine : Judged Event → Config → State → Option State → HostView → HostView → Result (Unit {0}) Stop → Type 0
-TakesLine Passed c s machine old new (Ok u) = Untouched s machine old new
-TakesLine Passed c s machine old new (Err stop) = ⊥
-TakesLine (Ends ending) c s machine old new (Ok u) = ⊥
-TakesLine (Ends ending) c s machine old new (Err stop) = (stop ≡ Ended ending) × Untouched s machine old new
-TakesLine (Taken e) c s machine old new (Ok u) = (is_built c e ≡ true) × Served s e machine old new (Ok u)
-TakesLine (Taken e) c s machine old new (Err NotBuilt) = (is_built c e ≡ false) × Untouched s machine old new
-TakesLine (Taken e) c s machine old new (Err stop) = (is_built c e ≡ true) × Serves s e machine old new (Err stop)
+abbrev pub TakesLine : Judged Event → State → Option State → HostView → HostView → Result (Unit {0}) Stop → Type 0
+TakesLine Passed s machine old new (Ok u) = Untouched s machine old new
+TakesLine Passed s machine old new (Err stop) = ⊥
+TakesLine (Ends ending) s machine old new (Ok u) = ⊥
+TakesLine (Ends ending) s machine old new (Err stop) = (stop ≡ Ended ending) × Untouched s machine old new
+TakesLine (Taken e) s machine old new (Ok u) = Served s e machine old new (Ok u)
+TakesLine (Taken e) s machine old new (Err stop) = Serves s e machine old new (Err stop)
 
-abbrev pub TakesLineFrom : Judged Event → Config → Option State → Option State → HostView → HostView → Result (Unit {0}) Stop → Type 0
-TakesLineFrom judged c None machine old new result = ⊥
-TakesLineFrom judged c (Some s) machine old new result = TakesLine judged c s machine old new result
+abbrev pub TakesLineFrom : Judged Event → Option State → Option State → HostView → HostView → Result (Unit {0}) Stop → Type 0
+TakesLineFrom judged None machine old new result = ⊥
+TakesLineFrom judged (Some s) machine old new result = TakesLine judged s machine old new result

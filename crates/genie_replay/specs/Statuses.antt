@@ -3,7 +3,7 @@ use Rattle.std.specs.Prelude.{ℕ, ◌==◌, List, [], ◌++◌, codes, decimal,
 use Rattle.genie_script.specs.declared.judge.Ending.{Ending}
 use Rattle.genie_script.specs.declared.judge.Ending.TheVariants as ending
 use Rattle.genie_replay.specs.declared.status.Status.{Status}
-use Rattle.genie_replay.specs.declared.status.Status.TheVariants.{Done, Usage, BadLine, HostFault, NoMemory, TooLong, BadBoot, NotBuilt}
+use Rattle.genie_replay.specs.declared.status.Status.TheVariants.{Done, Usage, BadLine, HostFault, NoMemory, TooLong, BadBoot}
 
 abbrev pub code_of : Status → ℕ
 code_of Done = 0
@@ -13,7 +13,6 @@ code_of HostFault = 3
 code_of NoMemory = 4
 code_of TooLong = 5
 code_of (BadBoot l) = 6
-code_of (NotBuilt l) = 7
 
 -- a line outside the boot's bounds, or no boot line at all
 abbrev pub boot_text : ℕ → List ℕ
@@ -27,7 +26,6 @@ status_text HostFault = codes "a file or the store failed"
 status_text NoMemory = codes "no memory"
 status_text TooLong = codes "script too long"
 status_text (BadBoot l) = boot_text l
-status_text (NotBuilt l) = codes "line " ++ decimal l ++ codes " is not built yet"
 
 -- the status of a run that came to the script's end
 abbrev pub status_of : Ending → Status

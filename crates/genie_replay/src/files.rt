@@ -1,7 +1,7 @@
 //! The files of the devices.
 ghost use Rattle.std.specs.Prelude.{◌≡◌, ◌<◌, ◌≤◌, ◌+◌, ◌*◌, OnOk, IfSome, IsSome, length, flat_map};
 ghost use Rattle.genie_base.specs.declared.semantics.Direction.TheVariants.{Inward, Outward};
-ghost use Rattle.genie_replay.specs.Files.{file_opening, openings_of, HoldsOfFile, HoldsOfOutputs, OpensAll, IsFresh, Opening, IsWriting, WritesFile, WritesFiles};
+ghost use Rattle.genie_replay.specs.Files.{file_opening, openings_of, HoldsOfFile, HoldsOfInput, HoldsOfInputs, HoldsOfOutputs, OpensAll, IsFresh, IsFreshFor, Opening, IsWriting, WritesFile, WritesFiles};
 
 use crate::write::write_all;
 use genie_host::{Failed, Host, OpenRefused};
@@ -13,6 +13,7 @@ fn open_input<H: Host>(host: &mut H, input: &Option<Name>) -> Result<(), OpenRef
     requires { (H.view host.old).opened < 20 }
     ensures opening { Opening OpenRefused.Failed (H.view host.old) (H.view host.new) result }
     ensures opened { OnOk result (OpensAll (file_opening Inward input.now) (H.view host.old) (H.view host.new)) }
+    ensures fresh { OnOk result (HoldsOfInput (IsFreshFor (H.view host.old) (H.view host.new)) input.now ((H.view host.old).opened + 1)) }
 {
     match input {
         None => Ok(()),
@@ -44,6 +45,7 @@ fn open_line<H: Host>(host: &mut H, device: &DeviceLine) -> Result<(), OpenRefus
     requires { (H.view host.old).opened < 19 }
     ensures opening { Opening OpenRefused.Failed (H.view host.old) (H.view host.new) result }
     ensures opened { OnOk result (OpensAll (openings_of device.now) (H.view host.old) (H.view host.new)) }
+    ensures input { OnOk result (HoldsOfInput (IsFreshFor (H.view host.old) (H.view host.new)) device.now.input ((H.view host.old).opened + 1)) }
     ensures fresh { OnOk result (HoldsOfFile (IsFresh (H.view host.old) (H.view host.new)) device.now.output 0 (H.view host.new).opened) }
 {
     match open_input(host, &device.input) {
@@ -52,12 +54,13 @@ fn open_line<H: Host>(host: &mut H, device: &DeviceLine) -> Result<(), OpenRefus
     }
 }
 
-#[tactic(auto, using(crate::proofs::Filing::fresh_more))]
+#[tactic(auto, using(crate::proofs::Filing::fresh_more, crate::proofs::Filing::inputs_more))]
 /// Opens the files of the devices, in the order of their lines.
 pub(crate) fn open_files<H: Host>(host: &mut H, devices: &[DeviceLine]) -> Result<(), OpenRefused>
     requires { (H.view host.old).opened + 2 * length devices.now < 20 }
     ensures opening { Opening OpenRefused.Failed (H.view host.old) (H.view host.new) result }
     ensures opened { OnOk result (OpensAll (flat_map openings_of devices.now) (H.view host.old) (H.view host.new)) }
+    ensures inputs { OnOk result (HoldsOfInputs (IsFreshFor (H.view host.old) (H.view host.new)) (H.view host.old).opened devices.now) }
     ensures fresh { OnOk result (HoldsOfOutputs (IsFresh (H.view host.old) (H.view host.new)) (H.view host.old).opened devices.now) }
 {
     match devices.split_first() {
@@ -69,8 +72,8 @@ pub(crate) fn open_files<H: Host>(host: &mut H, devices: &[DeviceLine]) -> Resul
     }
 }
 
-// How many files a device line names.
-fn file_count(device: &DeviceLine) -> u32
+/// How many files a device line names.
+pub(crate) fn file_count(device: &DeviceLine) -> u32
     ensures count { result ≡ length (openings_of device.now) }
     ensures most { result ≤ 2 }
 {

@@ -3,13 +3,12 @@
 
 mod booting;
 mod files;
+mod inputs;
 mod play;
 pub mod replay;
 pub mod script;
 mod serving;
 pub mod status;
-#[cfg(test)]
-mod tests;
 pub mod write;
 
 pub use crate::replay::run;

@@ -1,14 +1,12 @@
 //! The run of the lines behind the boot part.
 ghost use Rattle.std.specs.Prelude.{◌≡◌, ◌≢◌, ◌≤◌, IfSome, IsSome};
 ghost use Rattle.std.specs.Io.KnownBytes.{prepend_known};
-ghost use Rattle.genie_base.specs.Configs.{config_of};
 ghost use Rattle.genie_host.specs.Host.{Reading};
 ghost use Rattle.genie_replay.specs.Plays.{IsFirst, Leaves, PlaysFrom};
 
 use crate::script::{LineStep, SCRIPT, Script};
 use crate::serving::{Stop, take_line};
 use crate::status::Status;
-use genie_base::Config;
 use genie_host::Host;
 use genie_model::Flat;
 use genie_script::{LineBuffer, MOST_LINES};
@@ -20,7 +18,6 @@ pub(crate) fn play<H: Host>(
     script: &mut Script,
     line: &mut LineBuffer,
     flat: &mut Flat,
-    config: &Config,
     step: LineStep,
     before: u64,
 ) -> Status
@@ -28,8 +25,8 @@ pub(crate) fn play<H: Host>(
     requires few { before ≤ 1000000 }
     requires machine { IsSome flat.old }
     requires first { IfSome flat.old IsFirst }
-    ensures played { PlaysFrom flat.old (prepend_known script.old ((H.view host.old).handle 1).bytes) (config_of config.now)
-        step line.old before flat.new (H.view host.old) (H.view host.new) result }
+    ensures played { PlaysFrom flat.old (prepend_known script.old ((H.view host.old).handle 1).bytes) step line.old
+        before flat.new (H.view host.old) (H.view host.new) result }
     ensures machine { result ≢ Status.NoMemory → IsSome flat.new }
     ensures leaves { Leaves result (H.view host.old) (H.view host.new) }
     ensures not_usage { result ≢ Status.Usage }
@@ -41,10 +38,9 @@ pub(crate) fn play<H: Host>(
             LineStep::End => return Status::Done,
             LineStep::TooLong => return Status::TooLong,
         }
-        match take_line(host, flat, config, line.as_slice(), at) {
+        match take_line(host, flat, line.as_slice(), at) {
             Ok(()) => {}
             Err(Stop::Ended(ending)) => return Status::of(ending),
-            Err(Stop::NotBuilt) => return Status::NotBuilt(at + 1),
             Err(Stop::Host) => return Status::HostFault,
             Err(Stop::Memory) => return Status::NoMemory,
         }

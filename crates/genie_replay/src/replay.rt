@@ -1,13 +1,15 @@
 //! The top call.
-ghost use Rattle.std.specs.Prelude.{◌≡◌, ◌≢◌, ◌≤◌, ◌↔◌, IsNone, IfSome, map, string_bytes};
+ghost use Rattle.std.specs.Prelude.{◌≡◌, ◌≢◌, ◌≤◌, ◌↔◌, IsNone, IsSome, IfSome, length, map, string_bytes};
 ghost use Rattle.std.specs.Io.KnownBytes.{prepend_known};
 ghost use Rattle.genie_host.specs.Host.{Reading};
-ghost use Rattle.genie_replay.specs.Booted.{RunsBooted};
-ghost use Rattle.genie_replay.specs.Files.{HandleRose, HoldsOfOutputs, IsWriting};
+ghost use Rattle.genie_replay.specs.Booted.{RunsBooted, RunsFrom};
+ghost use Rattle.genie_replay.specs.Files.{HandleRose, HoldsOfInputs, HoldsOfOutputs, IsReading, IsWriting};
+ghost use Rattle.genie_replay.specs.Plays.{IsFirst};
 ghost use Rattle.genie_replay.specs.Outcome.{FaultOf, OutcomeOf, is_script_name, script_of};
 
 use crate::booting::{BootRead, read_boot};
 use crate::files::{open_files, write_files};
+use crate::inputs::{Unread, read_inputs};
 use crate::play::play;
 use crate::script::{LineStep, SCRIPT, Script};
 use crate::serving::REPLIES;
@@ -15,7 +17,7 @@ use crate::status::Status;
 use crate::write::write_all;
 use genie_host::{Host, OpenRefused};
 use genie_model::Flat;
-use genie_script::{BootPart, LineBuffer};
+use genie_script::{BootPart, DeviceLine, LineBuffer};
 use std::alloc::Global;
 
 /// The most bytes of a script's name.
@@ -30,8 +32,42 @@ fn is_name_of_script(name: &[u8]) -> bool
     }
 }
 
-// Boots the machine, writes the reply to the boot part, steps the events, and then writes what the devices sent. The
-// files are open.
+// Writes the reply to the boot part, steps the events, and then writes what the devices sent.
+fn run_started<H: Host>(
+    host: &mut H,
+    script: &mut Script,
+    line: &mut LineBuffer,
+    flat: &mut Flat,
+    devices: &[DeviceLine],
+    step: LineStep,
+    before: u64,
+) -> Status
+    requires input { ((H.view host.old).handle 1).mode ≡ Reading }
+    requires few { before ≤ 1000000 }
+    requires eight { length devices.now ≤ 8 }
+    requires outputs { HoldsOfOutputs (IsWriting (H.view host.old)) 1 devices.now }
+    requires machine { IsSome flat.old }
+    requires first { IfSome flat.old IsFirst }
+    ensures runs { RunsFrom flat.old devices.now (prepend_known script.old ((H.view host.old).handle 1).bytes) step line.old
+        before (H.view host.old) (H.view host.new) result }
+    ensures fault { result ≡ Status.HostFault → HandleRose (H.view host.old) (H.view host.new) }
+    ensures not_usage { result ≢ Status.Usage }
+{
+    match write_all(host, REPLIES, b"ok\n") {
+        Ok(()) => {}
+        Err(_) => return Status::HostFault,
+    }
+    let status = play(host, script, line, flat, step, before);
+    if status == Status::NoMemory {
+        return status;
+    }
+    match write_files(host, flat, devices, SCRIPT) {
+        Ok(()) => status,
+        Err(_) => Status::HostFault,
+    }
+}
+
+// Boots the machine and gives the devices their inputs, and then runs the script. The files are open.
 fn run_booted<H: Host>(
     alloc: Global,
     host: &mut H,
@@ -43,6 +79,7 @@ fn run_booted<H: Host>(
 ) -> Status
     requires input { ((H.view host.old).handle 1).mode ≡ Reading }
     requires few { before ≤ 1000000 }
+    requires inputs { HoldsOfInputs (IsReading (H.view host.old)) 1 part.now.devices }
     requires outputs { HoldsOfOutputs (IsWriting (H.view host.old)) 1 part.now.devices }
     ensures runs { RunsBooted part.now (prepend_known script.old ((H.view host.old).handle 1).bytes) step line.old before
         (H.view host.old) (H.view host.new) result }
@@ -50,21 +87,15 @@ fn run_booted<H: Host>(
     ensures not_usage { result ≢ Status.Usage }
 {
     let config = part.config();
+    let devices = part.devices();
     let mut flat = match Flat::boot(alloc, &config) {
         Ok(flat) => flat,
         Err(_) => return Status::NoMemory,
     };
-    match write_all(host, REPLIES, b"ok\n") {
-        Ok(()) => {}
-        Err(_) => return Status::HostFault,
-    }
-    let status = play(host, script, line, &mut flat, &config, step, before);
-    if status == Status::NoMemory {
-        return status;
-    }
-    match write_files(host, &flat, part.devices(), SCRIPT) {
-        Ok(()) => status,
-        Err(_) => Status::HostFault,
+    match read_inputs(alloc, host, &mut flat, devices, SCRIPT) {
+        Ok(()) => run_started(host, script, line, &mut flat, devices, step, before),
+        Err(Unread::Host) => Status::HostFault,
+        Err(Unread::Memory) => Status::NoMemory,
     }
 }
 

@@ -22,8 +22,6 @@ pub enum Status {
     TooLong,
     /// This line breaks a bound of the boot part, or there is no boot line: 0.
     BadBoot(u64),
-    /// This line is the first that isn't built yet.
-    NotBuilt(u64),
 }
 
 fn put_numbered(out: &mut LineBuffer, before: &[u8], line: u64, after: &[u8])
@@ -62,7 +60,6 @@ impl Status {
             Status::NoMemory => 4,
             Status::TooLong => 5,
             Status::BadBoot(_) => 6,
-            Status::NotBuilt(_) => 7,
         }
     }
 }
@@ -83,6 +80,5 @@ pub fn put_status(status: &Status, out: &mut LineBuffer)
         Status::TooLong => out.push_slice(b"script too long"),
         Status::BadBoot(0) => out.push_slice(b"no boot line"),
         Status::BadBoot(line) => put_numbered(out, b"line ", *line, b" breaks a boot bound"),
-        Status::NotBuilt(line) => put_numbered(out, b"line ", *line, b" is not built yet"),
     }
 }

@@ -1,4 +1,4 @@
-use Rattle.std.proofs.Common.{◌≡◌, ℕ, ◌<◌, ◌≤◌, ◌-◌, true, false, sym, ◌∙◌, arith}
+use Rattle.std.proofs.Common.{◌-◌, sym, ◌∙◌, arith}
 use Rattle.genie_base.specs.Regions.{is_free}
 use Rattle.genie_base.proofs.Searches.{find_least, find_no_number}
 use Rattle.genie_model.specs.Regions.{extent_of}

@@ -1,6 +1,5 @@
 use Rattle.std.proofs.Common.{◌+◌, ap}
 use Rattle.std.specs.Io.KnownBytes.{prepend_known}
-use Rattle.genie_base.specs.Configs.{config_of}
 use Rattle.genie_host.specs.Host.{HandleState}
 use Rattle.genie_replay.proofs.Exits.{at_host, at_unread, stopped_host}
 use Rattle.genie_replay.proofs.Remaining.{LeftText, left_next, left_none, left_passed, left_read, left_taken, some_left_text}
@@ -8,29 +7,29 @@ use Rattle.genie_replay.proofs.Stepping.{script_kept, so_far_none, so_read, so_t
 use Rattle.genie_replay.proofs.play.play.Goals as goal
 
 pub lines-init : goal.lines-init
-lines-init g c = so_far_none (config_of c.args.config.now) c.args.flat.now _ c.args.before _ c.requires.machine c.requires.first (left_none _ c.args.step c.args.line.now c.args.before)
+lines-init g c = so_far_none c.args.flat.now _ c.args.before _ c.requires.machine c.requires.first (left_none _ c.args.step c.args.line.now c.args.before)
 
 pub returns-in-Err-Host-clause-played : goal.returns-in-Err-Host-clause-played
 returns-in-Err-Host-clause-played g c =
     let so = c.lines.invariant in
-    let stop = stopped_host _ _ so.last _ _ _ (rw (c.as_slice.ensures.bytes, c.in-Err-Host.field-0-is, so.machine_is) at c.in-Err-Host.ensures) in
-    at_host _ _ c.args.step c.args.line.now c.args.before _ _ _ _ _ _ c.lines.at _ stop.event so stop.how
+    let stop = stopped_host _ so.last _ _ _ (rw (c.as_slice.ensures.bytes, c.in-Err-Host.field-0-is, so.machine_is) at c.in-Err-Host.ensures) in
+    at_host _ c.args.step c.args.line.now c.args.before _ _ _ _ _ _ c.lines.at _ stop.event so stop.how
     (left_next _ _ c.args.step c.args.line.now c.lines.line c.args.before c.lines.at so.done stop.event c.lines-test.true (rw c.in-Line.is at so.left) stop.is)
 
 pub returns-in-Err-clause-played : goal.returns-in-Err-clause-played
 returns-in-Err-clause-played g c =
     let taken = rw c.as_slice.ensures.bytes at c.in-Ok.ensures in
-    let so = so_taken _ _ _ _ _ _ _ _ c.lines.at _ (LeftText _ _ c.args.step c.args.line.now c.args.before (c.lines.at + 1)) _ c.lines.invariant taken
+    let so = so_taken _ _ _ _ _ _ _ c.lines.at _ (LeftText _ _ c.args.step c.args.line.now c.args.before (c.lines.at + 1)) _ c.lines.invariant taken
     (λ done l e. left_passed _ _ c.args.step c.args.line.now c.lines.line c.args.before c.lines.at done c.lines-test.true (rw c.in-Line.is at l) e)
     (λ done ev l e. left_taken _ _ c.args.step c.args.line.now c.lines.line c.args.before c.lines.at done ev c.lines-test.true (rw c.in-Line.is at l) e) in
-    at_unread _ _ c.args.step c.args.line.now c.args.before _ _ _ _ _ _ _ so c.in-Err.ensures.only c.in-Err.ensures.cause.later (some_left_text _ _ c.args.step c.args.line.now c.args.before _ so.done so.left)
+    at_unread _ c.args.step c.args.line.now c.args.before _ _ _ _ _ _ _ so c.in-Err.ensures.only c.in-Err.ensures.cause.later (some_left_text _ _ c.args.step c.args.line.now c.args.before _ so.done so.left)
 
 pub lines-preserved : goal.lines-preserved
 lines-preserved g c =
     let taken = rw c.as_slice.ensures.bytes at c.in-Ok.ensures in
-    let so = so_taken _ _ _ _ _ _ _ _ c.lines.at _ (LeftText _ _ c.args.step c.args.line.now c.args.before (c.lines.at + 1)) _ c.lines.invariant taken
+    let so = so_taken _ _ _ _ _ _ _ c.lines.at _ (LeftText _ _ c.args.step c.args.line.now c.args.before (c.lines.at + 1)) _ c.lines.invariant taken
     (λ done l e. left_passed _ _ c.args.step c.args.line.now c.lines.line c.args.before c.lines.at done c.lines-test.true (rw c.in-Line.is at l) e)
     (λ done ev l e. left_taken _ _ c.args.step c.args.line.now c.lines.line c.args.before c.lines.at done ev c.lines-test.true (rw c.in-Line.is at l) e) in
-    let kept = script_kept _ _ _ _ _ _ _ taken in
+    let kept = script_kept _ _ _ _ _ _ taken in
     let line = rw (ap (λ (h : HandleState). prepend_known c.lines.script h.bytes) kept) at c.in-Ok-next_line.ensures.line in
-    so_read _ _ _ _ _ _ _ _ _ so c.in-Ok-next_line.ensures.only c.in-Ok-next_line.ensures.cause.kept (λ done l. left_read _ _ _ _ c.args.step c.args.line.now c.in-Ok-next_line.step c.next_line.new.line c.args.before _ done line l)
+    so_read _ _ _ _ _ _ _ _ so c.in-Ok-next_line.ensures.only c.in-Ok-next_line.ensures.cause.kept (λ done l. left_read _ _ _ _ c.args.step c.args.line.now c.in-Ok-next_line.step c.next_line.new.line c.args.before _ done line l)

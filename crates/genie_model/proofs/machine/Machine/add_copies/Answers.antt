@@ -1,4 +1,4 @@
-use Rattle.std.proofs.Common.{◌≡◌, ◌+◌, ◌≤◌, length, ap, ◌∙◌, arith}
+use Rattle.std.proofs.Common.{length, ap, ◌∙◌, arith}
 use Rattle.genie_model.specs.Regions.{regions_at}
 use Rattle.genie_model.specs.State.{State}
 use Rattle.genie_model.specs.Space.{add_region, copy_of}

@@ -1,5 +1,4 @@
-use Rattle.std.proofs.Common.{◌≡◌, ap, ◌∙◌}
-use Rattle.std.specs.Prelude.{Some}
+use Rattle.std.proofs.Common.{ap, ◌∙◌}
 use Rattle.genie_base.specs.declared.semantics.Class.TheVariants.{WeakMove}
 use Rattle.genie_model.specs.State.{State}
 use Rattle.genie_model.specs.Regions.{reach_of}
