@@ -1,5 +1,5 @@
 -- Reading the inputs.
-use Rattle.std.proofs.Common.{◌≡◌, ◌≢◌, ℕ, ◌+◌, ◌<◌, ◌≤◌, List, [], ◌∷◌, ◌++◌, length, take, refl, ap, sym, ◌∙◌, arith, append-nil, subst, inl, inr}
+use Rattle.std.proofs.Common.{◌≡◌, ◌≢◌, ℕ, ◌+◌, ◌<◌, ◌≤◌, List, [], ◌∷◌, ◌++◌, length, refl, ap, sym, ◌∙◌, arith, append-nil, subst, inl, inr}
 use Rattle.std.specs.Prelude.{◌⊎◌, Option, Some, None, Ok, Err, Result, OnOk, IfSome}
 use Rattle.std.proofs.lemmas.List.{length-append}
 use Rattle.std.specs.Io.KnownBytes.{Consumes, IsAtEnd}
@@ -11,8 +11,8 @@ use Rattle.genie_model.specs.State.{State}
 use Rattle.genie_script.specs.declared.line.DeviceLine.{DeviceLine}
 use Rattle.genie_replay.specs.declared.inputs.Unread.{Unread}
 use Rattle.genie_replay.specs.declared.inputs.Unread.TheVariants as unread
-use Rattle.genie_replay.specs.Files.{HandleRose, HoldsOfFile, HoldsOfInputs, HoldsOfOutputs, IsReading, IsSameHandle, KeptUpTo, SameFaults, file_opening, openings_of}
-use Rattle.genie_replay.specs.Inputs.{Counts, CountsFor, HasInputs, ReadsInput, ReadsInputs, SetsInput, SetsInputs, Tells, WithFile}
+use Rattle.genie_replay.specs.Files.{HoldsOfFile, HoldsOfInputs, IsReading, IsSameHandle, KeptUpTo, SameFaults, file_opening, openings_of}
+use Rattle.genie_replay.specs.Inputs.{Counts, HasInputs, ReadsInput, ReadsInputs, SetsInput, SetsInputs, Tells}
 use Rattle.genie_replay.proofs.Filing.{inputs_map, only_faults, outputs_all, outputs_map, same_faults, same_trans}
 use Rattle.genie_replay.proofs.Reading.{consumes_more}
 

@@ -2,7 +2,6 @@
 use Rattle.std.proofs.Common.{◌≡◌, ℕ, ◌+◌, length, List, [], ◌∷◌, ◌++◌, refl, ap, ◌∙◌, append_assoc, arith, subst, inl, inr}
 use Rattle.std.specs.Prelude.{◌⊎◌, Option, Some, None, Ok, flat_map}
 use Rattle.std.specs.Io.KnownBytes.{Appends, Keeps, prepend_known}
-use Rattle.genie_base.specs.Configs.{Config}
 use Rattle.genie_base.specs.declared.semantics.Direction.TheVariants.{Inward}
 use Rattle.genie_host.specs.Host.{HostView, HandleState, OnlyHandle, Opens, Reading, empty_told}
 use Rattle.genie_model.specs.Flat.{sent_of}

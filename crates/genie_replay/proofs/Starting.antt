@@ -1,11 +1,12 @@
 -- The state that the devices' inputs make is the boot's with these inputs.
-use Rattle.std.proofs.Common.{◌≡◌, ◌≢◌, ℕ, zero, suc, ◌+◌, ◌<◌, ◌≤◌, true, false, List, [], ◌∷◌, length, refl, ap, ◌∙◌, arith, subst}
-use Rattle.std.specs.Prelude.{Option, Some, None, ◌==◌, IfSome, IsSome, slice_set, if◌then◌else◌}
+use Rattle.std.proofs.Common.{◌≡◌, ◌≢◌, ℕ, zero, suc, ◌+◌, ◌≤◌, List, [], ◌∷◌, length, refl, ap, ◌∙◌, arith, subst}
+use Rattle.std.specs.Prelude.{Option, Some, None, ◌==◌, IfSome, slice_set, if◌then◌else◌}
 use Rattle.std.proofs.lemmas.Bool.Decides.{nat_tests}
 use Rattle.std.specs.Io.KnownBytes.{Keeps}
 use Rattle.genie_base.specs.Configs.{Config, DeviceConfig}
 use Rattle.genie_host.specs.Host.{HostView}
-use Rattle.genie_model.specs.Flat.{with_input, with_rest}
+use Rattle.genie_model.specs.Flat.{with_input}
+use Rattle.genie_model.specs.Receiving.{with_rest}
 use Rattle.genie_model.specs.Sending.{change_device}
 use Rattle.genie_model.specs.State.{State, boot, boot_device, boot_devices}
 use Rattle.genie_model.specs.Tables.{entry}

@@ -1,5 +1,5 @@
 -- What each status says of the script, of the replies and of the devices' outputs.
-use Rattle.std.specs.Prelude.{◌≡◌, ◌⊎◌, ℕ, Bool, false, IsTrue, List, [], ◌∷◌, ◌++◌, codes, flat_map, map, All, Option, None, Some, ⊤, if◌then◌else◌, ◌&&◌, bytes_eq, nat_lt, length, not, ◌==◌}
+use Rattle.std.specs.Prelude.{◌≡◌, ◌⊎◌, ℕ, Bool, false, List, [], ◌∷◌, ◌++◌, codes, flat_map, map, Option, None, Some, ⊤, if◌then◌else◌, ◌&&◌, bytes_eq, nat_lt, length, not, ◌==◌}
 use Rattle.std.specs.Io.KnownBytes.{Appends, Keeps}
 use Rattle.genie_base.specs.Causes.{Rose}
 use Rattle.genie_base.specs.Configs.{Config}

@@ -1,5 +1,5 @@
 -- What stepping one event, and one line, does to the machine and to the host.
-use Rattle.std.specs.Prelude.{◌≡◌, true, false, Option, None, Some, Result, Ok, Err}
+use Rattle.std.specs.Prelude.{◌≡◌, Option, None, Some, Result, Ok, Err}
 use Rattle.genie_base.specs.declared.event.Event.{Event}
 use Rattle.genie_base.specs.declared.reply.Mark.TheVariants.{NoFault}
 use Rattle.genie_host.specs.Host.{HostView}

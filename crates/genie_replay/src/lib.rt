@@ -6,9 +6,13 @@ mod files;
 mod inputs;
 mod play;
 pub mod replay;
+#[cfg(test)]
+mod rows;
 pub mod script;
 mod serving;
 pub mod status;
+#[cfg(test)]
+mod tests;
 pub mod write;
 
 pub use crate::replay::run;
