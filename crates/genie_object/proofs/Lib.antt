@@ -1,3 +1,4 @@
+pub mod Changing
 pub mod Mapped
 pub mod Named
 pub mod ObjectLaws

@@ -1,5 +1,5 @@
 //! Laws of a memory.
-ghost use Rattle.genie_object.specs.Keeping.{ShowsSame, ShowsCounts, ShowsStored, ShowsLanded, KeepsSound};
+ghost use Rattle.genie_object.specs.Keeping.{ShowsSame, ShowsCounts, ShowsStored, ShowsLanded, ShowsFrame, ShowsAgain, ShowsDisowned, ShowsGiven, ShowsTaken, ShowsLent, ShowsEnded, ShowsStill, ShowsLast, ShowsUnlent, KeepsSound};
 
 /// A step that leaves bytes, places and entries alone shows what was seen before.
 #[tactic(auto, using(crate::proofs::Showing::shows_same))]
@@ -21,6 +21,66 @@ pub fn stored_law()
 /// Bytes that are stored in a frame that no page has show at that frame and nowhere else.
 pub fn landed_law()
     ensures { ShowsLanded }
+{}
+
+/// A step that changes the owner and the counts of one frame alone shows at that frame and nowhere else: the frame's
+/// bytes where it is seen by itself now, and nothing where it isn't. Each entry shows what it showed.
+#[tactic(auto, using(crate::proofs::Changing::shows_frame))]
+pub fn frame_law()
+    ensures { ShowsFrame }
+{}
+
+/// A frame that shows the bytes that it showed before changes nothing of what is seen.
+#[tactic(auto, using(crate::proofs::Changing::shows_again))]
+pub fn again_law()
+    ensures { ShowsAgain }
+{}
+
+/// A frame that `disown` has taken from its owner shows its bytes while a loan is out, for it is nobody's then. Without
+/// a loan it is free, and shows nothing.
+#[tactic(auto, using(crate::proofs::Changing::shows_disowned))]
+pub fn disowned_law()
+    ensures { ShowsDisowned }
+{}
+
+/// A frame that `give` has given to a page shows nothing by itself. One given to a system buffer or a pool shows its
+/// bytes.
+#[tactic(auto, using(crate::proofs::Changing::shows_given))]
+pub fn given_law()
+    ensures { ShowsGiven }
+{}
+
+/// A frame that `take` has taken for a page shows nothing by itself. One taken for another owner shows its bytes.
+pub fn taken_law()
+    ensures { ShowsTaken }
+{}
+
+/// A frame that `lend_strong` has lent shows its bytes by itself, even where a page has it.
+pub fn lent_law()
+    ensures { ShowsLent }
+{}
+
+/// A loan that `back_out` or `back_in` ends shows at its frame and nowhere else: the frame's bytes where it is seen by
+/// itself with the owner and the loans that are left, and nothing where it isn't.
+pub fn ended_law()
+    ensures { ShowsEnded }
+{}
+
+/// A loan that ends shows what was seen before where it doesn't change whether its frame is seen by itself: on a frame
+/// of a system buffer or a pool, on one of nobody while another loan is out, and on a page's frame unless it was the
+/// last strong loan.
+pub fn still_law()
+    ensures { ShowsStill }
+{}
+
+/// The last loan on a frame of nobody takes the frame's bytes away as it ends: the frame is free.
+pub fn last_law()
+    ensures { ShowsLast }
+{}
+
+/// The last strong loan on a page's frame takes the frame's bytes away as it ends. The page's entries show them still.
+pub fn unlent_law()
+    ensures { ShowsUnlent }
 {}
 
 /// Stored bytes leave the memory sound.
