@@ -1,7 +1,7 @@
 //! Whole runs over a host in memory.
-ghost use Rattle.std.specs.Prelude.{◌≡◌, [], IfOk};
+ghost use Rattle.std.specs.Prelude.{◌≡◌, [], IfOk, OnOk};
 
-use crate::rows::{ROWS, Row};
+use crate::rows::{Row, accesses, devices, inputs, limits, modes, moves, outputs};
 use crate::{Status, run};
 use genie_base::NoMemory;
 use genie_host::{Host, MemoryHost};
@@ -424,38 +424,121 @@ fn two_devices(rt: HostRuntime) -> Result<(), Fail> {
     Ok(())
 }
 
+// The bytes of a text in hex.
+fn from_hex(alloc: Global, text: &str) -> Result<Vec<u8>, NoMemory> {
+    match hex::decode(alloc, text) {
+        Ok(bytes) => Ok(bytes),
+        Err(_) => Err(NoMemory),
+    }
+}
+
 // A host with the row's script and files.
 fn host_for(alloc: Global, row: &Row) -> Result<MemoryHost, NoMemory>
     ensures { IfOk result (λ host. host.opened ≡ []) }
 {
     let mut host = MemoryHost::new(alloc, 65536)?;
-    host.file(b"s", row.script)?;
-    add_files(&mut host, row)?;
+    host.file(b"s", row.script.as_bytes())?;
+    add_files(alloc, &mut host, row)?;
     Ok(host)
 }
 
-fn add_files(host: &mut MemoryHost, row: &Row) -> Result<(), NoMemory>
-    ensures { host.new.opened ≡ host.old.opened }
+fn add_files(alloc: Global, host: &mut MemoryHost, row: &Row) -> Result<(), NoMemory>
+    ensures { OnOk result (host.new.opened ≡ host.old.opened) }
 {
-    for (name, bytes) in row.inputs {
-        host.file(name, bytes)?;
+    'inputs: for (name, bytes) in row.inputs {
+        let bytes = from_hex(alloc, bytes)?;
+        host.file(name.as_bytes(), bytes.as_slice())?;
     }
-    for (name, _) in row.outputs {
-        host.sink(name, 4096)?;
+    'outputs: for (name, _) in row.outputs {
+        host.sink(name.as_bytes(), 4096)?;
     }
     Ok(())
 }
 
-#[test]
-fn worked_scripts(rt: HostRuntime) -> Result<(), Fail> {
-    for row in ROWS {
-        let mut host = host_for(rt.alloc(), row)?;
-        let status = run_words(rt.alloc(), &mut host, &["replay", "s"])?;
-        assert_eq!(rt; status, Status::Done, "{}", row.about);
-        assert!(rt; is_written(&host, b"", row.replies), "{}", row.about);
-        for (name, bytes) in row.outputs {
-            assert!(rt; is_written(&host, name, bytes), "{}", row.about);
+fn outputs_are(alloc: Global, host: &MemoryHost, row: &Row) -> Result<bool, NoMemory> {
+    for (name, bytes) in row.outputs {
+        let bytes = from_hex(alloc, bytes)?;
+        if !is_written(host, name.as_bytes(), bytes.as_slice()) {
+            return Ok(false);
         }
     }
+    Ok(true)
+}
+
+// Whether the row's run ends with its last line, and writes what it should.
+fn is_as_worked(alloc: Global, row: &Row) -> Result<bool, NoMemory> {
+    let mut host = host_for(alloc, row)?;
+    let status = run_words(alloc, &mut host, &["replay", "s"])?;
+    if status != Status::Done || !is_written(&host, b"", row.replies.as_bytes()) {
+        return Ok(false);
+    }
+    outputs_are(alloc, &host, row)
+}
+
+// Whether all of these runs are.
+fn are_as_worked(alloc: Global, rows: &[Row]) -> Result<bool, NoMemory> {
+    for row in rows {
+        if !is_as_worked(alloc, row)? {
+            return Ok(false);
+        }
+    }
+    Ok(true)
+}
+
+#[test]
+fn worked_scripts(rt: HostRuntime) -> Result<(), Fail> {
+    assert!(rt; are_as_worked(rt.alloc(), accesses())?);
+    assert!(rt; are_as_worked(rt.alloc(), outputs())?);
+    assert!(rt; are_as_worked(rt.alloc(), inputs())?);
+    assert!(rt; are_as_worked(rt.alloc(), moves())?);
+    assert!(rt; are_as_worked(rt.alloc(), devices())?);
+    assert!(rt; are_as_worked(rt.alloc(), limits())?);
+    assert!(rt; are_as_worked(rt.alloc(), modes())?);
+    Ok(())
+}
+
+// A stream of one record of port 5, with 1,024 such bytes.
+fn long_record(alloc: Global, byte: u8) -> Result<Vec<u8>, AllocError> {
+    let mut stream = Vec::new(alloc);
+    stream.extend_from_slice(b"GD\x00\x05\x00\x00\x04\x00")?;
+    for _ in 0..1024 {
+        stream.push(byte)?;
+    }
+    Ok(stream)
+}
+
+#[test]
+fn long_datagrams(rt: HostRuntime) -> Result<(), Fail> {
+    let script =
+        b"boot 16 512 128 16 8\ndevice 0 early - o0 1 0\ndevice 1 pooled i1 - 1 0\nspawn 0\nmap 0 0 64\nout 0 ec 0 5 0 1024\nout 0 c 0 5 0 1025\nin 0 c 1 5 0 257\nsend 0 1032\ndone 1\n";
+    let mut host = host_with(rt.alloc(), script, 4096)?;
+    host.file(b"i1", b"")?;
+    assert_eq!(rt;
+        run_words(rt.alloc(), &mut host, &["replay", "s"])?,
+        Status::Done
+    );
+    assert!(rt;
+        is_written(
+            &host,
+            b"",
+            b"ok\nok\nok\nid 1\nerr range\nerr range\nsent 1032\nout 1024\n"
+        )
+    );
+    assert!(rt; is_written(&host, b"o0", long_record(rt.alloc(), 0)?.as_slice()));
+    let script =
+        b"boot 16 64 128 16 8\ndevice 0 early i0 - 1 0\nspawn 0\nin 0 em 0 5 - 1024\nin 0 em 0 5 - 960\nrecv 0 2000\ndone 1\n";
+    let mut host = host_with(rt.alloc(), script, 4096)?;
+    host.file(b"i0", long_record(rt.alloc(), 0xab)?.as_slice())?;
+    assert_eq!(rt;
+        run_words(rt.alloc(), &mut host, &["replay", "s"])?,
+        Status::Done
+    );
+    assert!(rt;
+        is_written(
+            &host,
+            b"",
+            b"ok\nok\nerr frames\nid 1\ngot 1032\nin 8192 960 cut\n"
+        )
+    );
     Ok(())
 }
