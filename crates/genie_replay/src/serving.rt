@@ -1,7 +1,6 @@
 //! Stepping one event, and one line.
-ghost use Rattle.std.specs.Prelude.{◌≡◌, ◌<◌, ◌^◌, true, IsTrue, IsSome, IfSome};
+ghost use Rattle.std.specs.Prelude.{◌<◌, ◌^◌, IsTrue, IsSome, IfSome};
 ghost use Rattle.genie_base.specs.Events.{is_whole};
-ghost use Rattle.genie_host.specs.Host.{Writing};
 ghost use Rattle.genie_model.specs.Flat.{HasNumber};
 ghost use Rattle.genie_script.specs.Judge.{event_said};
 ghost use Rattle.genie_script.specs.Lines.{line_of};

@@ -1,5 +1,5 @@
 //! How a run ends.
-ghost use Rattle.std.specs.Prelude.{◌≡◌, ◌+◌, ◌≤◌, ◌++◌, [], length, codes, decimal};
+ghost use Rattle.std.specs.Prelude.{◌≡◌, ◌+◌, ◌≤◌, ◌++◌, [], length, decimal};
 ghost use Rattle.genie_replay.specs.Statuses.{code_of, status_of, status_text};
 
 use genie_script::{Ending, LineBuffer};
