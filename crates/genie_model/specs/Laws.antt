@@ -1,12 +1,20 @@
 -- Laws of the flat machine's steps.
-use Rattle.std.specs.Prelude.{◌≡◌, ℕ, ◌+◌, ◌≤◌, List, ◌++◌}
-use Rattle.genie_base.specs.Events.{mark_of}
+use Rattle.std.specs.Prelude.{◌≡◌, ℕ, ◌+◌, ◌≤◌, Bool, true, false, IsTrue, List, [], ◌∷◌, ◌++◌, length, flat_map, All}
+use Rattle.std.specs.List.{range_with_len}
+use Rattle.genie_base.specs.Configs.{Config, Fits}
+use Rattle.genie_base.specs.Events.{is_whole, mark_of}
 use Rattle.genie_base.specs.declared.event.Event.{Event}
+use Rattle.genie_base.specs.declared.event.Event.TheVariants.{Output, Input}
 use Rattle.genie_base.specs.declared.reply.Mark.{Mark}
 use Rattle.genie_base.specs.declared.reply.Mark.TheVariants.{NoFault}
+use Rattle.genie_base.specs.declared.reply.Reply.{Reply}
+use Rattle.genie_base.specs.declared.reply.Reply.TheVariants as reply
+use Rattle.genie_base.specs.declared.semantics.Semantics.{Semantics}
+use Rattle.genie_base.specs.declared.semantics.Semantics.TheVariants as semantics
 use Rattle.genie_model.specs.Flat.{sent_of}
-use Rattle.genie_model.specs.State.{State}
-use Rattle.genie_model.specs.Step.{step}
+use Rattle.genie_model.specs.Orderly.{IsOrderly}
+use Rattle.genie_model.specs.State.{State, boot}
+use Rattle.genie_model.specs.Step.{Outcome, step, Follows}
 
 -- what a device has sent stays sent: a step only adds to it; and numbers of transfers rise by at most one
 pub record Grows (old new : State) : Type 0 where
@@ -19,3 +27,72 @@ StepsGrow = (s : State) (e : Event) (m : Mark) → Grows s (step s e m).0
 -- where nothing fails, the reply shows no fault
 abbrev pub PlainStepsShowNoFault : Type 0
 PlainStepsShowNoFault = (s : State) (e : Event) → mark_of (step s e NoFault).1 ≡ NoFault
+
+-- a refusal, or a failure of the store
+abbrev pub is_refused : Reply → Bool
+is_refused (reply.Err refusal) = true
+is_refused reply.StoreFault = true
+is_refused _ = false
+
+abbrev pub RefusalsChangeNothing : Type 0
+RefusalsChangeNothing = (s : State) (e : Event) (m : Mark) → IsTrue (is_refused (step s e m).1) → (step s e m).0 ≡ s
+
+-- the configuration stays
+abbrev pub StepsKeepConfig : Type 0
+StepsKeepConfig = (s : State) (e : Event) (m : Mark) → (step s e m).0.config ≡ s.config
+
+-- the basic form of a semantics
+abbrev pub basic : Semantics → Semantics
+basic semantics.Copy = semantics.Copy
+basic semantics.EmulatedCopy = semantics.Copy
+basic semantics.Share = semantics.Share
+basic semantics.EmulatedShare = semantics.Share
+basic semantics.Move = semantics.Move
+basic semantics.EmulatedMove = semantics.Move
+basic semantics.WeakMove = semantics.WeakMove
+basic semantics.EmulatedWeakMove = semantics.WeakMove
+
+-- the same event by the basic form
+abbrev pub basic_event : Event → Event
+basic_event (Output p sem d port flow a n) = Output p (basic sem) d port flow a n
+basic_event (Input p sem d port flow a n) = Input p (basic sem) d port flow a n
+basic_event e = e
+
+-- an emulated call steps as the basic one
+abbrev pub LevelsStepAlike : Type 0
+LevelsStepAlike = (s : State) (e : Event) (m : Mark) → step s (basic_event e) m ≡ step s e m
+
+-- the state with other thresholds
+abbrev pub with_thresholds : ℕ → ℕ → State → State
+with_thresholds out back s = record s { config = record s.config { copy_out = out; reverse_copy_out = back } }
+
+abbrev pub outcome_with_thresholds : ℕ → ℕ → Outcome → Outcome
+outcome_with_thresholds out back o = (with_thresholds out back o.0, o.1)
+
+-- no step looks at a threshold
+abbrev pub ThresholdsStepAlike : Type 0
+ThresholdsStepAlike = (out back : ℕ) (s : State) (e : Event) (m : Mark) → step (with_thresholds out back s) e m ≡ outcome_with_thresholds out back (step s e m)
+
+abbrev pub id_of : Reply → List ℕ
+id_of (reply.Id k) = k ∷ []
+id_of _ = []
+
+-- the numbers of the calls that were accepted
+abbrev pub ids : List Reply → List ℕ
+ids replies = flat_map id_of replies
+
+-- numbered one after the other, none twice
+pub record Counts (s : State) (replies : List Reply) (last : State) : Type 0 where
+  pub numbers : ids replies ≡ range_with_len s.next (length (ids replies))
+  pub next : last.next ≡ s.next + length (ids replies)
+
+abbrev pub RunsCount : Type 0
+RunsCount = (s : State) (es : List Event) (rs : List Reply) (last : State) → Follows s es rs last → Counts s rs last
+
+-- what every step from an orderly state leaves so
+abbrev pub Stays : (State → Type 0) → Type 0
+Stays P = (s : State) (e : Event) (m : Mark) → IsTrue (is_whole e) → IsOrderly s → P (step s e m).0
+
+-- every state that a run reaches is orderly
+abbrev pub RunsStayOrderly : Type 0
+RunsStayOrderly = (c : Config) (inputs : ℕ → List ℕ) (es : List Event) (rs : List Reply) (last : State) → Fits c → All (λ (e : Event). IsTrue (is_whole e)) es → Follows (boot c inputs) es rs last → IsOrderly last

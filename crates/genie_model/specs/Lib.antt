@@ -3,6 +3,7 @@ pub mod Ending
 pub mod Flat
 pub mod Inputs
 pub mod Laws
+pub mod Orderly
 pub mod Outputs
 pub mod Pending
 pub mod Receiving
