@@ -1,3 +1,5 @@
+pub mod Accepted
+pub mod Apart
 pub mod Booting
 pub mod Causes
 pub mod Collecting
@@ -10,3 +12,5 @@ pub mod Placing
 pub mod Quiet
 pub mod Results
 pub mod Rows
+pub mod Shrinking
+pub mod Spacing

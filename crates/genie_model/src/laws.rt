@@ -1,5 +1,6 @@
 //! Laws of the flat machine.
-ghost use Rattle.genie_model.specs.Laws.{StepsGrow, PlainStepsShowNoFault};
+ghost use Rattle.genie_model.specs.Laws.{StepsGrow, PlainStepsShowNoFault, Stays};
+ghost use Rattle.genie_model.specs.Orderly.{RegionsAreApart};
 ghost use Rattle.genie_model.specs.Rows.{WorkedRows};
 
 /// What a device has sent stays sent, and numbers of transfers rise by at most one in a step.
@@ -19,4 +20,9 @@ pub fn plain_steps_show_no_fault()
 #[tactic(auto, using(crate::proofs::Rows::worked_rows))]
 pub fn worked_rows()
     ensures { WorkedRows }
+{}
+
+/// Regions of one process never overlap and stay in the order of their start pages.
+pub fn regions_stay_apart()
+    ensures { Stays RegionsAreApart }
 {}
