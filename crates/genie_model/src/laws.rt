@@ -1,6 +1,6 @@
 //! Laws of the flat machine.
 ghost use Rattle.genie_model.specs.Laws.{StepsGrow, PlainStepsShowNoFault, Stays};
-ghost use Rattle.genie_model.specs.Orderly.{RegionsAreApart};
+ghost use Rattle.genie_model.specs.Orderly.{RegionsAreApart, CommittedIsBounded};
 ghost use Rattle.genie_model.specs.Rows.{WorkedRows};
 
 /// What a device has sent stays sent, and numbers of transfers rise by at most one in a step.
@@ -25,4 +25,10 @@ pub fn worked_rows()
 /// Regions of one process never overlap and stay in the order of their start pages.
 pub fn regions_stay_apart()
     ensures { Stays RegionsAreApart }
+{}
+
+/// The pages of all regions fit the store.
+#[tactic(auto, using(crate::proofs::Spacing::committed_is_bounded))]
+pub fn committed_is_bounded()
+    ensures { Stays CommittedIsBounded }
 {}
