@@ -1,4 +1,5 @@
 //! Laws of the flat machine.
+ghost use Rattle.std.specs.Prelude.{◌≡◌, length};
 ghost use Rattle.genie_model.specs.Laws.{StepsGrow, PlainStepsShowNoFault, Stays};
 ghost use Rattle.genie_model.specs.Orderly.{RegionsAreApart, CommittedIsBounded};
 ghost use Rattle.genie_model.specs.Rows.{WorkedRows};
@@ -31,4 +32,10 @@ pub fn regions_stay_apart()
 #[tactic(auto, using(crate::proofs::Spacing::committed_is_bounded))]
 pub fn committed_is_bounded()
     ensures { Stays CommittedIsBounded }
+{}
+
+/// Every step leaves 16 places for processes.
+#[tactic(auto, using(crate::proofs::Spacing::places_stay))]
+pub fn places_stay()
+    ensures { Stays (λ s. length s.processes ≡ 16) }
 {}
