@@ -6,8 +6,6 @@ mod files;
 mod inputs;
 mod play;
 pub mod replay;
-#[cfg(test)]
-mod rows;
 pub mod script;
 mod serving;
 pub mod status;

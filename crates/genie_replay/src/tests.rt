@@ -1,11 +1,9 @@
 //! Whole runs over a host in memory.
 ghost use Rattle.std.specs.Prelude.{◌≡◌, [], IfOk, OnOk};
 
-use crate::rows::{Row, accesses, devices, inputs, limits, modes, moves, outputs};
 use crate::{Status, run};
 use genie_base::NoMemory;
 use genie_host::{Host, MemoryHost};
-use itoa::Buffer;
 use std::alloc::{AllocError, Global};
 use std::test::Fail;
 
@@ -365,37 +363,6 @@ fn faults(rt: HostRuntime) -> Result<(), Fail> {
     Ok(())
 }
 
-// A script that fills the table of transfers with outputs of no bytes, and the replies to it.
-fn full_table(alloc: Global) -> Result<(Vec<u8>, Vec<u8>), AllocError> {
-    let mut script = Vec::new(alloc);
-    let mut replies = Vec::new(alloc);
-    script.extend_from_slice(b"boot 16 32 64 16 8\ndevice 0 early - o0 1 0\nspawn 0\nmap 0 0 1\n")?;
-    replies.extend_from_slice(b"ok\nok\nok\n")?;
-    for id in 1..65u32 {
-        script.extend_from_slice(b"out 0 c 0 5 0 0\n")?;
-        replies.extend_from_slice(b"id ")?;
-        replies.extend_from_slice(Buffer::new().format(id).as_bytes())?;
-        replies.extend_from_slice(b"\n")?;
-    }
-    script.extend_from_slice(b"out 0 c 0 5 0 0\nsend 0 8\ndone 1\nout 0 c 0 5 0 0\n")?;
-    replies.extend_from_slice(b"err transfers\nsent 8\nout 0\nid 65\n")?;
-    Ok((script, replies))
-}
-
-#[test]
-fn sixty_four_transfers(rt: HostRuntime) -> Result<(), Fail> {
-    let (script, replies) = full_table(rt.alloc())?;
-    let mut host = host_with(rt.alloc(), script.as_slice(), 4096)?;
-    // pieces of three bytes: reads and writes are taken up where they stopped
-    host.pieces(3);
-    assert_eq!(rt;
-        run_words(rt.alloc(), &mut host, &["replay", "s"])?,
-        Status::Done
-    );
-    assert!(rt; is_written(&host, b"", replies.as_slice()));
-    Ok(())
-}
-
 #[test]
 fn two_devices(rt: HostRuntime) -> Result<(), Fail> {
     let script =
@@ -421,124 +388,5 @@ fn two_devices(rt: HostRuntime) -> Result<(), Fail> {
     );
     assert!(rt; is_written(&host, b"", b""));
     assert_eq!(rt; host.refusals(), 1);
-    Ok(())
-}
-
-// The bytes of a text in hex.
-fn from_hex(alloc: Global, text: &str) -> Result<Vec<u8>, NoMemory> {
-    match hex::decode(alloc, text) {
-        Ok(bytes) => Ok(bytes),
-        Err(_) => Err(NoMemory),
-    }
-}
-
-// A host with the row's script and files.
-fn host_for(alloc: Global, row: &Row) -> Result<MemoryHost, NoMemory>
-    ensures { IfOk result (λ host. host.opened ≡ []) }
-{
-    let mut host = MemoryHost::new(alloc, 65536)?;
-    host.file(b"s", row.script.as_bytes())?;
-    add_files(alloc, &mut host, row)?;
-    Ok(host)
-}
-
-fn add_files(alloc: Global, host: &mut MemoryHost, row: &Row) -> Result<(), NoMemory>
-    ensures { OnOk result (host.new.opened ≡ host.old.opened) }
-{
-    'inputs: for (name, bytes) in row.inputs {
-        let bytes = from_hex(alloc, bytes)?;
-        host.file(name.as_bytes(), bytes.as_slice())?;
-    }
-    'outputs: for (name, _) in row.outputs {
-        host.sink(name.as_bytes(), 4096)?;
-    }
-    Ok(())
-}
-
-fn outputs_are(alloc: Global, host: &MemoryHost, row: &Row) -> Result<bool, NoMemory> {
-    for (name, bytes) in row.outputs {
-        let bytes = from_hex(alloc, bytes)?;
-        if !is_written(host, name.as_bytes(), bytes.as_slice()) {
-            return Ok(false);
-        }
-    }
-    Ok(true)
-}
-
-// Whether the row's run ends with its last line, and writes what it should.
-fn is_as_worked(alloc: Global, row: &Row) -> Result<bool, NoMemory> {
-    let mut host = host_for(alloc, row)?;
-    let status = run_words(alloc, &mut host, &["replay", "s"])?;
-    if status != Status::Done || !is_written(&host, b"", row.replies.as_bytes()) {
-        return Ok(false);
-    }
-    outputs_are(alloc, &host, row)
-}
-
-// Whether all of these runs are.
-fn are_as_worked(alloc: Global, rows: &[Row]) -> Result<bool, NoMemory> {
-    for row in rows {
-        if !is_as_worked(alloc, row)? {
-            return Ok(false);
-        }
-    }
-    Ok(true)
-}
-
-#[test]
-fn worked_scripts(rt: HostRuntime) -> Result<(), Fail> {
-    assert!(rt; are_as_worked(rt.alloc(), accesses())?);
-    assert!(rt; are_as_worked(rt.alloc(), outputs())?);
-    assert!(rt; are_as_worked(rt.alloc(), inputs())?);
-    assert!(rt; are_as_worked(rt.alloc(), moves())?);
-    assert!(rt; are_as_worked(rt.alloc(), devices())?);
-    assert!(rt; are_as_worked(rt.alloc(), limits())?);
-    assert!(rt; are_as_worked(rt.alloc(), modes())?);
-    Ok(())
-}
-
-// A stream of one record of port 5, with 1,024 such bytes.
-fn long_record(alloc: Global, byte: u8) -> Result<Vec<u8>, AllocError> {
-    let mut stream = Vec::new(alloc);
-    stream.extend_from_slice(b"GD\x00\x05\x00\x00\x04\x00")?;
-    for _ in 0..1024 {
-        stream.push(byte)?;
-    }
-    Ok(stream)
-}
-
-#[test]
-fn long_datagrams(rt: HostRuntime) -> Result<(), Fail> {
-    let script =
-        b"boot 16 512 128 16 8\ndevice 0 early - o0 1 0\ndevice 1 pooled i1 - 1 0\nspawn 0\nmap 0 0 64\nout 0 ec 0 5 0 1024\nout 0 c 0 5 0 1025\nin 0 c 1 5 0 257\nsend 0 1032\ndone 1\n";
-    let mut host = host_with(rt.alloc(), script, 4096)?;
-    host.file(b"i1", b"")?;
-    assert_eq!(rt;
-        run_words(rt.alloc(), &mut host, &["replay", "s"])?,
-        Status::Done
-    );
-    assert!(rt;
-        is_written(
-            &host,
-            b"",
-            b"ok\nok\nok\nid 1\nerr range\nerr range\nsent 1032\nout 1024\n"
-        )
-    );
-    assert!(rt; is_written(&host, b"o0", long_record(rt.alloc(), 0)?.as_slice()));
-    let script =
-        b"boot 16 64 128 16 8\ndevice 0 early i0 - 1 0\nspawn 0\nin 0 em 0 5 - 1024\nin 0 em 0 5 - 960\nrecv 0 2000\ndone 1\n";
-    let mut host = host_with(rt.alloc(), script, 4096)?;
-    host.file(b"i0", long_record(rt.alloc(), 0xab)?.as_slice())?;
-    assert_eq!(rt;
-        run_words(rt.alloc(), &mut host, &["replay", "s"])?,
-        Status::Done
-    );
-    assert!(rt;
-        is_written(
-            &host,
-            b"",
-            b"ok\nok\nerr frames\nid 1\ngot 1032\nin 8192 960 cut\n"
-        )
-    );
     Ok(())
 }
