@@ -10,3 +10,4 @@ pub mod Placing
 pub mod Quiet
 pub mod Results
 pub mod Rows
+pub mod Unused
