@@ -1,11 +1,14 @@
+pub mod Arriving
 pub mod Booting
 pub mod Causes
 pub mod Collecting
+pub mod Distinct
 pub mod First
 pub mod Forking
 pub mod Fresh
 pub mod Growing
 pub mod InPlace
+pub mod Numbered
 pub mod Placing
 pub mod Quiet
 pub mod Results

@@ -1,5 +1,6 @@
 //! Laws of the flat machine.
-ghost use Rattle.genie_model.specs.Laws.{StepsGrow, PlainStepsShowNoFault};
+ghost use Rattle.genie_model.specs.Laws.{StepsGrow, PlainStepsShowNoFault, Stays};
+ghost use Rattle.genie_model.specs.Orderly.{NumbersDiffer};
 ghost use Rattle.genie_model.specs.Rows.{WorkedRows};
 
 /// What a device has sent stays sent, and numbers of transfers rise by at most one in a step.
@@ -19,4 +20,10 @@ pub fn plain_steps_show_no_fault()
 #[tactic(auto, using(crate::proofs::Rows::worked_rows))]
 pub fn worked_rows()
     ensures { WorkedRows }
+{}
+
+/// No two regions or orphans have the same number.
+#[tactic(auto, using(crate::proofs::Distinct::numbers_differ))]
+pub fn numbers_differ()
+    ensures { Stays NumbersDiffer }
 {}
