@@ -8,6 +8,7 @@ pub mod Forking
 pub mod Fresh
 pub mod Growing
 pub mod InPlace
+pub mod Named
 pub mod Numbered
 pub mod Placing
 pub mod Quiet

@@ -1,6 +1,6 @@
 //! Laws of the flat machine.
 ghost use Rattle.genie_model.specs.Laws.{StepsGrow, PlainStepsShowNoFault, Stays};
-ghost use Rattle.genie_model.specs.Orderly.{NumbersDiffer};
+ghost use Rattle.genie_model.specs.Orderly.{NumbersDiffer, OrphansAreNamed};
 ghost use Rattle.genie_model.specs.Rows.{WorkedRows};
 
 /// What a device has sent stays sent, and numbers of transfers rise by at most one in a step.
@@ -26,4 +26,10 @@ pub fn worked_rows()
 #[tactic(auto, using(crate::proofs::Distinct::numbers_differ))]
 pub fn numbers_differ()
     ensures { Stays NumbersDiffer }
+{}
+
+/// A pending weak transfer names each orphan.
+#[tactic(auto, using(crate::proofs::Named::orphans_are_named))]
+pub fn orphans_are_named()
+    ensures { Stays OrphansAreNamed }
 {}
