@@ -1,7 +1,7 @@
 //! Laws of the flat machine.
 ghost use Rattle.std.specs.Prelude.{◌≡◌, length};
 ghost use Rattle.genie_model.specs.Laws.{StepsGrow, PlainStepsShowNoFault, Stays};
-ghost use Rattle.genie_model.specs.Orderly.{RegionsAreApart, CommittedIsBounded};
+ghost use Rattle.genie_model.specs.Orderly.{RegionsAreApart, CommittedIsBounded, NumbersDiffer, OrphansAreNamed};
 ghost use Rattle.genie_model.specs.Rows.{WorkedRows};
 
 /// What a device has sent stays sent, and numbers of transfers rise by at most one in a step.
@@ -38,4 +38,14 @@ pub fn committed_is_bounded()
 #[tactic(auto, using(crate::proofs::Spacing::places_stay))]
 pub fn places_stay()
     ensures { Stays (λ s. length s.processes ≡ 16) }
+/// No two regions or orphans have the same number.
+#[tactic(auto, using(crate::proofs::Distinct::numbers_differ))]
+pub fn numbers_differ()
+    ensures { Stays NumbersDiffer }
+{}
+
+/// A pending weak transfer names each orphan.
+#[tactic(auto, using(crate::proofs::Named::orphans_are_named))]
+pub fn orphans_are_named()
+    ensures { Stays OrphansAreNamed }
 {}
