@@ -6,7 +6,10 @@ pub mod Forking
 pub mod Fresh
 pub mod Growing
 pub mod InPlace
+pub mod Keeping
 pub mod Placing
 pub mod Quiet
+pub mod Refusals
+pub mod Remaining
 pub mod Results
 pub mod Rows

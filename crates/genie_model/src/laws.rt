@@ -1,5 +1,5 @@
 //! Laws of the flat machine.
-ghost use Rattle.genie_model.specs.Laws.{StepsGrow, PlainStepsShowNoFault};
+ghost use Rattle.genie_model.specs.Laws.{StepsGrow, PlainStepsShowNoFault, RefusalsChangeNothing};
 ghost use Rattle.genie_model.specs.Rows.{WorkedRows};
 
 /// What a device has sent stays sent, and numbers of transfers rise by at most one in a step.
@@ -12,6 +12,12 @@ pub fn steps_grow()
 #[tactic(auto, using(crate::proofs::Growing::plain_steps_show_no_fault))]
 pub fn plain_steps_show_no_fault()
     ensures { PlainStepsShowNoFault }
+{}
+
+/// A refusal and a failure of the store leave the state as it is.
+#[tactic(auto, using(crate::proofs::Refusals::refusals_change_nothing))]
+pub fn refusals_change_nothing()
+    ensures { RefusalsChangeNothing }
 {}
 
 /// The definitions compute the worked rows: for each class of semantics and each kind of device one script at least,
