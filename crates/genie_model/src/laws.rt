@@ -1,5 +1,5 @@
 //! Laws of the flat machine.
-ghost use Rattle.genie_model.specs.Laws.{StepsGrow, PlainStepsShowNoFault, RefusalsChangeNothing};
+ghost use Rattle.genie_model.specs.Laws.{StepsGrow, PlainStepsShowNoFault, RefusalsChangeNothing, StepsKeepConfig};
 ghost use Rattle.genie_model.specs.Rows.{WorkedRows};
 
 /// What a device has sent stays sent, and numbers of transfers rise by at most one in a step.
@@ -18,6 +18,12 @@ pub fn plain_steps_show_no_fault()
 #[tactic(auto, using(crate::proofs::Refusals::refusals_change_nothing))]
 pub fn refusals_change_nothing()
     ensures { RefusalsChangeNothing }
+{}
+
+/// A step keeps the configuration.
+#[tactic(auto, using(crate::proofs::Keeping::steps_keep_config))]
+pub fn steps_keep_config()
+    ensures { StepsKeepConfig }
 {}
 
 /// The definitions compute the worked rows: for each class of semantics and each kind of device one script at least,
