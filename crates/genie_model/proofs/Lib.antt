@@ -1,6 +1,7 @@
 pub mod Booting
 pub mod Causes
 pub mod Collecting
+pub mod Counting
 pub mod First
 pub mod Forking
 pub mod Fresh
