@@ -8,6 +8,7 @@ pub mod Fresh
 pub mod Growing
 pub mod InPlace
 pub mod Keeping
+pub mod Levels
 pub mod Placing
 pub mod Quiet
 pub mod Refusals

@@ -1,5 +1,5 @@
 //! Laws of the flat machine.
-ghost use Rattle.genie_model.specs.Laws.{StepsGrow, PlainStepsShowNoFault, RefusalsChangeNothing, StepsKeepConfig, RunsCount};
+ghost use Rattle.genie_model.specs.Laws.{StepsGrow, PlainStepsShowNoFault, RefusalsChangeNothing, StepsKeepConfig, LevelsStepAlike, RunsCount};
 ghost use Rattle.genie_model.specs.Rows.{WorkedRows};
 
 /// What a device has sent stays sent, and numbers of transfers rise by at most one in a step.
@@ -24,6 +24,12 @@ pub fn refusals_change_nothing()
 #[tactic(auto, using(crate::proofs::Keeping::steps_keep_config))]
 pub fn steps_keep_config()
     ensures { StepsKeepConfig }
+{}
+
+/// An emulated call steps as the basic one.
+#[tactic(auto, using(crate::proofs::Levels::levels_step_alike))]
+pub fn levels_step_alike()
+    ensures { LevelsStepAlike }
 {}
 
 /// The numbers of the calls that a run accepts follow each other, and none is left out.
