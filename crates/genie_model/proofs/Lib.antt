@@ -15,3 +15,4 @@ pub mod Refusals
 pub mod Remaining
 pub mod Results
 pub mod Rows
+pub mod Thresholds

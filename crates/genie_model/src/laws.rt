@@ -1,5 +1,5 @@
 //! Laws of the flat machine.
-ghost use Rattle.genie_model.specs.Laws.{StepsGrow, PlainStepsShowNoFault, RefusalsChangeNothing, StepsKeepConfig, LevelsStepAlike, RunsCount};
+ghost use Rattle.genie_model.specs.Laws.{StepsGrow, PlainStepsShowNoFault, RefusalsChangeNothing, StepsKeepConfig, LevelsStepAlike, ThresholdsStepAlike, RunsCount};
 ghost use Rattle.genie_model.specs.Rows.{WorkedRows};
 
 /// What a device has sent stays sent, and numbers of transfers rise by at most one in a step.
@@ -30,6 +30,12 @@ pub fn steps_keep_config()
 #[tactic(auto, using(crate::proofs::Levels::levels_step_alike))]
 pub fn levels_step_alike()
     ensures { LevelsStepAlike }
+{}
+
+/// No step looks at a threshold.
+#[tactic(auto, using(crate::proofs::Thresholds::thresholds_step_alike))]
+pub fn thresholds_step_alike()
+    ensures { ThresholdsStepAlike }
 {}
 
 /// The numbers of the calls that a run accepts follow each other, and none is left out.
