@@ -1,6 +1,6 @@
 //! Laws of the flat machine.
 ghost use Rattle.std.specs.Prelude.{◌≡◌, length};
-ghost use Rattle.genie_model.specs.Laws.{StepsGrow, PlainStepsShowNoFault, Stays};
+ghost use Rattle.genie_model.specs.Laws.{StepsGrow, PlainStepsShowNoFault, Stays, RefusalsChangeNothing, StepsKeepConfig, LevelsStepAlike, ThresholdsStepAlike, RunsCount};
 ghost use Rattle.genie_model.specs.Orderly.{RegionsAreApart, CommittedIsBounded, NumbersDiffer, OrphansAreNamed};
 ghost use Rattle.genie_model.specs.Rows.{WorkedRows};
 
@@ -14,6 +14,36 @@ pub fn steps_grow()
 #[tactic(auto, using(crate::proofs::Growing::plain_steps_show_no_fault))]
 pub fn plain_steps_show_no_fault()
     ensures { PlainStepsShowNoFault }
+{}
+
+/// A refusal and a failure of the store leave the state as it is.
+#[tactic(auto, using(crate::proofs::Refusals::refusals_change_nothing))]
+pub fn refusals_change_nothing()
+    ensures { RefusalsChangeNothing }
+{}
+
+/// A step keeps the configuration.
+#[tactic(auto, using(crate::proofs::Keeping::steps_keep_config))]
+pub fn steps_keep_config()
+    ensures { StepsKeepConfig }
+{}
+
+/// An emulated call steps as the basic one.
+#[tactic(auto, using(crate::proofs::Levels::levels_step_alike))]
+pub fn levels_step_alike()
+    ensures { LevelsStepAlike }
+{}
+
+/// No step looks at a threshold.
+#[tactic(auto, using(crate::proofs::Thresholds::thresholds_step_alike))]
+pub fn thresholds_step_alike()
+    ensures { ThresholdsStepAlike }
+{}
+
+/// The numbers of the calls that a run accepts follow each other, and none is left out.
+#[tactic(auto, using(crate::proofs::Counting::runs_count))]
+pub fn runs_count()
+    ensures { RunsCount }
 {}
 
 /// The definitions compute the worked rows: for each class of semantics and each kind of device one script at least,
@@ -38,6 +68,8 @@ pub fn committed_is_bounded()
 #[tactic(auto, using(crate::proofs::Spacing::places_stay))]
 pub fn places_stay()
     ensures { Stays (λ s. length s.processes ≡ 16) }
+{}
+
 /// No two regions or orphans have the same number.
 #[tactic(auto, using(crate::proofs::Distinct::numbers_differ))]
 pub fn numbers_differ()
