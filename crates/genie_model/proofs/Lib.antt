@@ -1,4 +1,5 @@
 pub mod Accepted
+pub mod Alike
 pub mod Apart
 pub mod Arriving
 pub mod Booting

@@ -1,5 +1,5 @@
 -- Laws of the flat machine's steps.
-use Rattle.std.specs.Prelude.{◌≡◌, ℕ, ◌+◌, ◌≤◌, Bool, true, false, IsTrue, List, [], ◌∷◌, ◌++◌, length, flat_map, All}
+use Rattle.std.specs.Prelude.{◌≡◌, ℕ, ◌+◌, ◌≤◌, Bool, true, false, IsTrue, List, [], ◌∷◌, ◌++◌, length, map, flat_map, All}
 use Rattle.std.specs.List.{range_with_len}
 use Rattle.genie_base.specs.Configs.{Config, Fits}
 use Rattle.genie_base.specs.Events.{is_whole, mark_of}
@@ -72,6 +72,18 @@ outcome_with_thresholds out back o = (with_thresholds out back o.0, o.1)
 -- no step looks at a threshold
 abbrev pub ThresholdsStepAlike : Type 0
 ThresholdsStepAlike = (out back : ℕ) (s : State) (e : Event) (m : Mark) → step (with_thresholds out back s) e m ≡ outcome_with_thresholds out back (step s e m)
+
+-- events that differ in nothing but whether their calls are emulated
+abbrev pub SameButLevels : List Event → List Event → Type 0
+SameButLevels es fs = map basic_event es ≡ map basic_event fs
+
+abbrev pub ShowNoFault : List Reply → Type 0
+ShowNoFault replies = All (λ (r : Reply). mark_of r ≡ NoFault) replies
+
+-- Where no fault comes, events of other levels give the same replies under other thresholds, and the same last state but
+-- for these.
+abbrev pub RunsAlike : Type 0
+RunsAlike = (out back : ℕ) (s : State) (es fs : List Event) (rs qs : List Reply) (last end : State) → SameButLevels es fs → Follows s es rs last → Follows (with_thresholds out back s) fs qs end → ShowNoFault rs → ShowNoFault qs → (qs ≡ rs) × (end ≡ with_thresholds out back last)
 
 abbrev pub id_of : Reply → List ℕ
 id_of (reply.Id k) = k ∷ []

@@ -1,6 +1,6 @@
 //! Laws of the flat machine.
 ghost use Rattle.std.specs.Prelude.{◌≡◌, length};
-ghost use Rattle.genie_model.specs.Laws.{StepsGrow, PlainStepsShowNoFault, Stays, RefusalsChangeNothing, StepsKeepConfig, LevelsStepAlike, ThresholdsStepAlike, RunsCount};
+ghost use Rattle.genie_model.specs.Laws.{StepsGrow, PlainStepsShowNoFault, Stays, RefusalsChangeNothing, StepsKeepConfig, LevelsStepAlike, ThresholdsStepAlike, RunsCount, RunsAlike};
 ghost use Rattle.genie_model.specs.Orderly.{RegionsAreApart, CommittedIsBounded, NumbersDiffer, OrphansAreNamed};
 ghost use Rattle.genie_model.specs.Rows.{WorkedRows};
 
@@ -80,4 +80,10 @@ pub fn numbers_differ()
 #[tactic(auto, using(crate::proofs::Named::orphans_are_named))]
 pub fn orphans_are_named()
     ensures { Stays OrphansAreNamed }
+{}
+
+/// Where no fault comes, emulated and basic calls give the same replies under any thresholds, and the same last state but for these.
+#[tactic(auto, using(crate::proofs::Alike::runs_alike))]
+pub fn runs_alike()
+    ensures { RunsAlike }
 {}
