@@ -1,3 +1,4 @@
+pub mod Accepting
 pub mod Booting
 pub mod Causes
 pub mod Collecting
@@ -9,6 +10,7 @@ pub mod Growing
 pub mod InPlace
 pub mod Keeping
 pub mod Levels
+pub mod Numbering
 pub mod Placing
 pub mod Quiet
 pub mod Refusals

@@ -1,5 +1,6 @@
 //! Laws of the flat machine.
-ghost use Rattle.genie_model.specs.Laws.{StepsGrow, PlainStepsShowNoFault, RefusalsChangeNothing, StepsKeepConfig, LevelsStepAlike, ThresholdsStepAlike, RunsCount};
+ghost use Rattle.genie_model.specs.Laws.{StepsGrow, PlainStepsShowNoFault, RefusalsChangeNothing, StepsKeepConfig, LevelsStepAlike, ThresholdsStepAlike, RunsCount, Stays};
+ghost use Rattle.genie_model.specs.Orderly.{NumbersRise};
 ghost use Rattle.genie_model.specs.Rows.{WorkedRows};
 
 /// What a device has sent stays sent, and numbers of transfers rise by at most one in a step.
@@ -42,6 +43,11 @@ pub fn thresholds_step_alike()
 #[tactic(auto, using(crate::proofs::Counting::runs_count))]
 pub fn runs_count()
     ensures { RunsCount }
+{}
+
+/// At most 64 transfers are pending, in the order of their numbers, all of which are below the next one.
+pub fn numbers_rise()
+    ensures { Stays NumbersRise }
 {}
 
 /// The definitions compute the worked rows: for each class of semantics and each kind of device one script at least,
