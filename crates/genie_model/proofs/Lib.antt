@@ -18,3 +18,4 @@ pub mod Remaining
 pub mod Results
 pub mod Rows
 pub mod Thresholds
+pub mod Wiring

@@ -1,6 +1,6 @@
 //! Laws of the flat machine.
 ghost use Rattle.genie_model.specs.Laws.{StepsGrow, PlainStepsShowNoFault, RefusalsChangeNothing, StepsKeepConfig, LevelsStepAlike, ThresholdsStepAlike, RunsCount, Stays};
-ghost use Rattle.genie_model.specs.Orderly.{NumbersRise};
+ghost use Rattle.genie_model.specs.Orderly.{NumbersRise, WiredIsBounded};
 ghost use Rattle.genie_model.specs.Rows.{WorkedRows};
 
 /// What a device has sent stays sent, and numbers of transfers rise by at most one in a step.
@@ -48,6 +48,12 @@ pub fn runs_count()
 /// At most 64 transfers are pending, in the order of their numbers, all of which are below the next one.
 pub fn numbers_rise()
     ensures { Stays NumbersRise }
+{}
+
+/// The pending transfers need no more frames than there are for them.
+#[tactic(auto, using(crate::proofs::Wiring::wired_is_bounded))]
+pub fn wired_is_bounded()
+    ensures { Stays WiredIsBounded }
 {}
 
 /// The definitions compute the worked rows: for each class of semantics and each kind of device one script at least,
