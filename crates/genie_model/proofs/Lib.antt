@@ -1,4 +1,5 @@
 pub mod Accepted
+pub mod Accepting
 pub mod Alike
 pub mod Apart
 pub mod Arriving
@@ -16,6 +17,7 @@ pub mod Keeping
 pub mod Levels
 pub mod Named
 pub mod Numbered
+pub mod Numbering
 pub mod Placing
 pub mod Quiet
 pub mod Refusals
@@ -26,3 +28,4 @@ pub mod Shrinking
 pub mod Spacing
 pub mod Thresholds
 pub mod Unused
+pub mod Wiring

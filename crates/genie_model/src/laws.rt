@@ -1,7 +1,7 @@
 //! Laws of the flat machine.
 ghost use Rattle.std.specs.Prelude.{◌≡◌, length};
 ghost use Rattle.genie_model.specs.Laws.{StepsGrow, PlainStepsShowNoFault, Stays, RefusalsChangeNothing, StepsKeepConfig, LevelsStepAlike, ThresholdsStepAlike, RunsCount, RunsAlike};
-ghost use Rattle.genie_model.specs.Orderly.{RegionsAreApart, CommittedIsBounded, NumbersDiffer, OrphansAreNamed};
+ghost use Rattle.genie_model.specs.Orderly.{RegionsAreApart, CommittedIsBounded, NumbersDiffer, OrphansAreNamed, NumbersRise, WiredIsBounded};
 ghost use Rattle.genie_model.specs.Rows.{WorkedRows};
 
 /// What a device has sent stays sent, and numbers of transfers rise by at most one in a step.
@@ -44,6 +44,17 @@ pub fn thresholds_step_alike()
 #[tactic(auto, using(crate::proofs::Counting::runs_count))]
 pub fn runs_count()
     ensures { RunsCount }
+{}
+
+/// At most 64 transfers are pending, in the order of their numbers, all of which are below the next one.
+pub fn numbers_rise()
+    ensures { Stays NumbersRise }
+{}
+
+/// The pending transfers need no more frames than there are for them.
+#[tactic(auto, using(crate::proofs::Wiring::wired_is_bounded))]
+pub fn wired_is_bounded()
+    ensures { Stays WiredIsBounded }
 {}
 
 /// The definitions compute the worked rows: for each class of semantics and each kind of device one script at least,
