@@ -51,7 +51,7 @@ kept {c} k h =
     let same = k.config in
     rw same (record { places = k.table.places ∙ h.places; apart = k.table.apart c.page h.apart; pages = omega (arith, k.table.pages, h.pages) })
 
-none_apart : (page : ℕ) → AreApart page []
+pub none_apart : (page : ℕ) → AreApart page []
 none_apart page = record { few = omega arith; order = λ i j d l m. absurd (omega arith); each = λ k d l. absurd (omega arith) }
 
 -- what is so of each process, and where there is none

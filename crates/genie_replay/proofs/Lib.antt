@@ -1,3 +1,4 @@
+pub mod Alike
 pub mod Boots
 pub mod Exits
 pub mod Filing

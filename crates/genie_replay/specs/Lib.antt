@@ -1,3 +1,4 @@
+pub mod Alike
 pub mod Booted
 pub mod Booting
 pub mod Files

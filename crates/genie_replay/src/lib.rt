@@ -4,6 +4,7 @@
 mod booting;
 mod files;
 mod inputs;
+pub mod laws;
 mod play;
 pub mod replay;
 pub mod script;

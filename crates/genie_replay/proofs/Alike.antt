@@ -1,0 +1,28 @@
+-- Scripts of other levels and thresholds run alike.
+use Rattle.std.proofs.Common.{◌≡◌, ℕ, List, [], sym, ap, ◌∙◌}
+use Rattle.genie_base.specs.Configs.{Config}
+use Rattle.genie_base.specs.declared.event.Event.{Event}
+use Rattle.genie_base.specs.declared.reply.Reply.{Reply}
+use Rattle.genie_host.specs.Host.{HostView}
+use Rattle.genie_model.specs.Flat.{sent_of}
+use Rattle.genie_model.specs.Laws.{RunsAlike, SameButLevels, ShowNoFault, with_thresholds}
+use Rattle.genie_model.specs.State.{State, boot}
+use Rattle.genie_model.specs.Step.{Follows}
+use Rattle.genie_script.specs.Judge.{Numbered}
+use Rattle.genie_script.specs.declared.line.DeviceLine.{DeviceLine}
+use Rattle.genie_replay.specs.Alike.{SameButThresholds, SameRun, ScriptsRunAlike}
+use Rattle.genie_replay.specs.Inputs.{AreTold, inputs_from}
+use Rattle.genie_replay.specs.Outcome.{Ran, events_of}
+
+other_boot : (c d : Config) (inputs : ℕ → List ℕ) → SameButThresholds c d → boot d inputs ≡ with_thresholds d.copy_out d.reverse_copy_out (boot c inputs)
+other_boot c d inputs same = ap (λ (x : Config). boot x inputs) same
+
+pub scripts_run_alike : RunsAlike → ScriptsRunAlike
+scripts_run_alike law script other c d devices events others old new before after a b same levels names told quiet plain =
+    let out : ℕ = d.copy_out in
+    let back : ℕ = d.reverse_copy_out in
+    let from : a.start ≡ boot c (inputs_from old.names (λ _. []) devices) = a.begins told in
+    let there : b.start ≡ boot d (inputs_from before.names (λ _. []) devices) = b.begins (rw names told) in
+    let start : b.start ≡ with_thresholds out back a.start = there ∙ ap (λ n. boot d (inputs_from n (λ _. []) devices)) names ∙ other_boot c d (inputs_from old.names (λ _. []) devices) same ∙ sym (ap (with_thresholds out back) from) in
+    let both = law out back a.start (events_of events) (events_of others) a.replies b.replies a.last b.last levels a.follows (rw (sym start) b.follows) quiet plain in
+    record { replies = both.0; sent = λ k. ap (λ (s : State). sent_of s k) both.1 }
