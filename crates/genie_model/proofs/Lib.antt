@@ -18,6 +18,7 @@ pub mod Levels
 pub mod Named
 pub mod Numbered
 pub mod Numbering
+pub mod Orderly
 pub mod Placing
 pub mod Quiet
 pub mod Refusals

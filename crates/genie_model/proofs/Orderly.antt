@@ -8,14 +8,16 @@ use Rattle.genie_base.specs.declared.event.Event.{Event}
 use Rattle.genie_base.specs.declared.reply.Mark.{Mark}
 use Rattle.genie_base.specs.declared.reply.Reply.{Reply}
 use Rattle.genie_model.specs.Laws.{Stays, RunsStayOrderly}
-use Rattle.genie_model.specs.Orderly.{IsOrderly, AreApart, NumbersRise, WiredIsBounded, RangesLie, HeldForOne}
+use Rattle.genie_model.specs.Orderly.{IsOrderly, AreApart, RangesLie, HeldForOne}
 use Rattle.genie_model.specs.Regions.{regions_of}
 use Rattle.genie_model.specs.State.{State, Process, boot}
 use Rattle.genie_model.specs.Step.{step, Follows}
 use Rattle.genie_model.proofs.Distinct.{numbers_differ}
 use Rattle.genie_model.proofs.Keeping.{steps_keep_config}
 use Rattle.genie_model.proofs.Named.{orphans_are_named}
+use Rattle.genie_model.proofs.Numbering.{numbers_rise}
 use Rattle.genie_model.proofs.Spacing.{none_apart, places_stay, regions_stay_apart, committed_is_bounded}
+use Rattle.genie_model.proofs.Wiring.{wired_is_bounded}
 
 pub boot_is_orderly : (c : Config) (inputs : ℕ → List ℕ) → Fits c → IsOrderly (boot c inputs)
 boot_is_orderly c inputs fits = record {
@@ -31,7 +33,7 @@ boot_is_orderly c inputs fits = record {
   holds = record { held = λ k d l. absurd (omega arith); one = λ k named. omega arith };
 }
 
-module _ (rise : Stays NumbersRise) (wired : Stays WiredIsBounded) (lie : Stays RangesLie) (held : Stays HeldForOne) where
+module _ (lie : Stays RangesLie) (held : Stays HeldForOne) where
   step_is_orderly : (s : State) (e : Event) (m : Mark) → IsTrue (is_whole e) → IsOrderly s → IsOrderly (step s e m).0
   step_is_orderly s e m whole o =
       let same = steps_keep_config s e m in
@@ -39,9 +41,9 @@ module _ (rise : Stays NumbersRise) (wired : Stays WiredIsBounded) (lie : Stays 
         config = rw same o.config;
         places = places_stay s e m whole o;
         regions = regions_stay_apart s e m whole o;
-        wired = wired s e m whole o;
+        wired = wired_is_bounded s e m whole o;
         committed = committed_is_bounded s e m whole o;
-        transfers = rise s e m whole o;
+        transfers = numbers_rise s e m whole o;
         numbers = numbers_differ s e m whole o;
         orphans = orphans_are_named s e m whole o;
         ranges = lie s e m whole o;
