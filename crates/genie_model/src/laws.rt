@@ -1,5 +1,6 @@
 //! Laws of the flat machine.
-ghost use Rattle.genie_model.specs.Laws.{StepsGrow, PlainStepsShowNoFault};
+ghost use Rattle.genie_model.specs.Laws.{StepsGrow, PlainStepsShowNoFault, Stays};
+ghost use Rattle.genie_model.specs.Orderly.{RangesLie};
 ghost use Rattle.genie_model.specs.Rows.{WorkedRows};
 
 /// What a device has sent stays sent, and numbers of transfers rise by at most one in a step.
@@ -19,4 +20,10 @@ pub fn plain_steps_show_no_fault()
 #[tactic(auto, using(crate::proofs::Rows::worked_rows))]
 pub fn worked_rows()
     ensures { WorkedRows }
+{}
+
+/// Every named range lies in the region or the orphan that it names.
+#[tactic(auto, using(crate::proofs::Ranges::ranges_lie))]
+pub fn ranges_lie()
+    ensures { Stays RangesLie }
 {}
