@@ -11,6 +11,7 @@ pub mod Forking
 pub mod Fresh
 pub mod Growing
 pub mod Having
+pub mod Holding
 pub mod InPlace
 pub mod Landing
 pub mod Leaving

@@ -1,6 +1,6 @@
 //! Laws of the flat machine.
 ghost use Rattle.genie_model.specs.Laws.{StepsGrow, PlainStepsShowNoFault, Stays};
-ghost use Rattle.genie_model.specs.Orderly.{RangesLie};
+ghost use Rattle.genie_model.specs.Orderly.{RangesLie, HeldForOne};
 ghost use Rattle.genie_model.specs.Rows.{WorkedRows};
 
 /// What a device has sent stays sent, and numbers of transfers rise by at most one in a step.
@@ -26,4 +26,9 @@ pub fn worked_rows()
 #[tactic(auto, using(crate::proofs::Ranges::ranges_lie))]
 pub fn ranges_lie()
     ensures { Stays RangesLie }
+{}
+
+/// A strong transfer names nothing, or as a move input the region that its owner holds, which no other transfer names.
+pub fn held_for_one()
+    ensures { Stays HeldForOne }
 {}
