@@ -7,15 +7,17 @@ use Rattle.genie_base.specs.Events.{is_whole, mark_of}
 use Rattle.genie_base.specs.declared.event.Event.{Event}
 use Rattle.genie_base.specs.declared.reply.Mark.{Mark}
 use Rattle.genie_base.specs.declared.reply.Reply.{Reply}
-use Rattle.genie_model.specs.Laws.{Stays, RunsStayOrderly}
-use Rattle.genie_model.specs.Orderly.{IsOrderly, AreApart, RangesLie, HeldForOne}
+use Rattle.genie_model.specs.Laws.{RunsStayOrderly}
+use Rattle.genie_model.specs.Orderly.{IsOrderly, AreApart}
 use Rattle.genie_model.specs.Regions.{regions_of}
 use Rattle.genie_model.specs.State.{State, Process, boot}
 use Rattle.genie_model.specs.Step.{step, Follows}
 use Rattle.genie_model.proofs.Distinct.{numbers_differ}
+use Rattle.genie_model.proofs.Holding.{held_for_one}
 use Rattle.genie_model.proofs.Keeping.{steps_keep_config}
 use Rattle.genie_model.proofs.Named.{orphans_are_named}
 use Rattle.genie_model.proofs.Numbering.{numbers_rise}
+use Rattle.genie_model.proofs.Ranges.{ranges_lie}
 use Rattle.genie_model.proofs.Spacing.{none_apart, places_stay, regions_stay_apart, committed_is_bounded}
 use Rattle.genie_model.proofs.Wiring.{wired_is_bounded}
 
@@ -33,30 +35,29 @@ boot_is_orderly c inputs fits = record {
   holds = record { held = λ k d l. absurd (omega arith); one = λ k named. omega arith };
 }
 
-module _ (lie : Stays RangesLie) (held : Stays HeldForOne) where
-  step_is_orderly : (s : State) (e : Event) (m : Mark) → IsTrue (is_whole e) → IsOrderly s → IsOrderly (step s e m).0
-  step_is_orderly s e m whole o =
-      let same = steps_keep_config s e m in
-      record {
-        config = rw same o.config;
-        places = places_stay s e m whole o;
-        regions = regions_stay_apart s e m whole o;
-        wired = wired_is_bounded s e m whole o;
-        committed = committed_is_bounded s e m whole o;
-        transfers = numbers_rise s e m whole o;
-        numbers = numbers_differ s e m whole o;
-        orphans = orphans_are_named s e m whole o;
-        ranges = lie s e m whole o;
-        holds = held s e m whole o;
-      }
+step_is_orderly : (s : State) (e : Event) (m : Mark) → IsTrue (is_whole e) → IsOrderly s → IsOrderly (step s e m).0
+step_is_orderly s e m whole o =
+    let same = steps_keep_config s e m in
+    record {
+      config = rw same o.config;
+      places = places_stay s e m whole o;
+      regions = regions_stay_apart s e m whole o;
+      wired = wired_is_bounded s e m whole o;
+      committed = committed_is_bounded s e m whole o;
+      transfers = numbers_rise s e m whole o;
+      numbers = numbers_differ s e m whole o;
+      orphans = orphans_are_named s e m whole o;
+      ranges = ranges_lie s e m whole o;
+      holds = held_for_one s e m whole o;
+    }
 
-  follows_orderly : (s : State) (es : List Event) (rs : List Reply) (last : State) → IsOrderly s → All (λ (e : Event). IsTrue (is_whole e)) es → Follows s es rs last → IsOrderly last
-  follows_orderly s [] [] last o whole h = rw (sym h) o
-  follows_orderly s (e ∷ es) (r ∷ rs) last o whole h =
-      let Whole : Event → Type 0 = λ x. IsTrue (is_whole x) in
-      follows_orderly (step s e (mark_of r)).0 es rs last (step_is_orderly s e (mark_of r) (All-head Whole e es whole) o) (All-tail Whole e es whole) h.1
-  follows_orderly s [] (r ∷ rs) last o whole h = absurd h
-  follows_orderly s (e ∷ es) [] last o whole h = absurd h
+follows_orderly : (s : State) (es : List Event) (rs : List Reply) (last : State) → IsOrderly s → All (λ (e : Event). IsTrue (is_whole e)) es → Follows s es rs last → IsOrderly last
+follows_orderly s [] [] last o whole h = rw (sym h) o
+follows_orderly s (e ∷ es) (r ∷ rs) last o whole h =
+    let Whole : Event → Type 0 = λ x. IsTrue (is_whole x) in
+    follows_orderly (step s e (mark_of r)).0 es rs last (step_is_orderly s e (mark_of r) (All-head Whole e es whole) o) (All-tail Whole e es whole) h.1
+follows_orderly s [] (r ∷ rs) last o whole h = absurd h
+follows_orderly s (e ∷ es) [] last o whole h = absurd h
 
-  pub runs_stay_orderly : RunsStayOrderly
-  runs_stay_orderly c inputs es rs last fits whole h = follows_orderly (boot c inputs) es rs last (boot_is_orderly c inputs fits) whole h
+pub runs_stay_orderly : RunsStayOrderly
+runs_stay_orderly c inputs es rs last fits whole h = follows_orderly (boot c inputs) es rs last (boot_is_orderly c inputs fits) whole h

@@ -1,7 +1,7 @@
 //! Laws of the flat machine.
 ghost use Rattle.std.specs.Prelude.{◌≡◌, length};
-ghost use Rattle.genie_model.specs.Laws.{StepsGrow, PlainStepsShowNoFault, Stays, RefusalsChangeNothing, StepsKeepConfig, LevelsStepAlike, ThresholdsStepAlike, RunsCount, RunsAlike};
-ghost use Rattle.genie_model.specs.Orderly.{RegionsAreApart, CommittedIsBounded, NumbersDiffer, OrphansAreNamed, NumbersRise, WiredIsBounded};
+ghost use Rattle.genie_model.specs.Laws.{StepsGrow, PlainStepsShowNoFault, RefusalsChangeNothing, StepsKeepConfig, LevelsStepAlike, ThresholdsStepAlike, RunsAlike, RunsCount, Stays, RunsStayOrderly};
+ghost use Rattle.genie_model.specs.Orderly.{RegionsAreApart, WiredIsBounded, CommittedIsBounded, NumbersRise, NumbersDiffer, OrphansAreNamed, RangesLie, HeldForOne};
 ghost use Rattle.genie_model.specs.Rows.{WorkedRows};
 
 /// What a device has sent stays sent, and numbers of transfers rise by at most one in a step.
@@ -40,15 +40,28 @@ pub fn thresholds_step_alike()
     ensures { ThresholdsStepAlike }
 {}
 
-/// The numbers of the calls that a run accepts follow each other, and none is left out.
+/// Where no fault comes, emulated and basic calls give the same replies under any thresholds, and the same last state but
+/// for these.
+#[tactic(auto, using(crate::proofs::Alike::runs_alike))]
+pub fn runs_alike()
+    ensures { RunsAlike }
+{}
+
+/// The calls of a run are numbered one after the other, so that no number is used again.
 #[tactic(auto, using(crate::proofs::Counting::runs_count))]
 pub fn runs_count()
     ensures { RunsCount }
 {}
 
-/// At most 64 transfers are pending, in the order of their numbers, all of which are below the next one.
-pub fn numbers_rise()
-    ensures { Stays NumbersRise }
+/// A step leaves 16 places for processes.
+#[tactic(auto, using(crate::proofs::Spacing::places_stay))]
+pub fn places_stay()
+    ensures { Stays (λ s. length s.processes ≡ 16) }
+{}
+
+/// Regions of one process never overlap and stay in the order of their start pages.
+pub fn regions_stay_apart()
+    ensures { Stays RegionsAreApart }
 {}
 
 /// The pending transfers need no more frames than there are for them.
@@ -57,28 +70,15 @@ pub fn wired_is_bounded()
     ensures { Stays WiredIsBounded }
 {}
 
-/// The definitions compute the worked rows: for each class of semantics and each kind of device one script at least,
-/// with its replies and the bytes sent.
-#[tactic(auto, using(crate::proofs::Rows::worked_rows))]
-pub fn worked_rows()
-    ensures { WorkedRows }
-{}
-
-/// Regions of one process never overlap and stay in the order of their start pages.
-pub fn regions_stay_apart()
-    ensures { Stays RegionsAreApart }
-{}
-
 /// The pages of all regions fit the store.
 #[tactic(auto, using(crate::proofs::Spacing::committed_is_bounded))]
 pub fn committed_is_bounded()
     ensures { Stays CommittedIsBounded }
 {}
 
-/// Every step leaves 16 places for processes.
-#[tactic(auto, using(crate::proofs::Spacing::places_stay))]
-pub fn places_stay()
-    ensures { Stays (λ s. length s.processes ≡ 16) }
+/// At most 64 transfers are pending, in the order of their numbers, all of which are below the next one.
+pub fn numbers_rise()
+    ensures { Stays NumbersRise }
 {}
 
 /// No two regions or orphans have the same number.
@@ -93,8 +93,26 @@ pub fn orphans_are_named()
     ensures { Stays OrphansAreNamed }
 {}
 
-/// Where no fault comes, emulated and basic calls give the same replies under any thresholds, and the same last state but for these.
-#[tactic(auto, using(crate::proofs::Alike::runs_alike))]
-pub fn runs_alike()
-    ensures { RunsAlike }
+/// Every named range lies in the region or the orphan that it names.
+#[tactic(auto, using(crate::proofs::Ranges::ranges_lie))]
+pub fn ranges_lie()
+    ensures { Stays RangesLie }
+{}
+
+/// A strong transfer names nothing, or as a move input the region that its owner holds, which no other transfer names.
+pub fn held_for_one()
+    ensures { Stays HeldForOne }
+{}
+
+/// Every state that a run reaches is orderly: it has all of this.
+#[tactic(auto, using(crate::proofs::Orderly::runs_stay_orderly))]
+pub fn runs_stay_orderly()
+    ensures { RunsStayOrderly }
+{}
+
+/// The definitions compute the worked rows: for each class of semantics and each kind of device one script at least,
+/// with its replies and the bytes sent.
+#[tactic(auto, using(crate::proofs::Rows::worked_rows))]
+pub fn worked_rows()
+    ensures { WorkedRows }
 {}

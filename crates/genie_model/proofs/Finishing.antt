@@ -1,0 +1,89 @@
+-- What transfers name stays there where a transfer ends.
+use Rattle.std.proofs.Common.{◌≡◌, ℕ, true, false, List, length, replicate, refl, sym, ◌∙◌, eqb-true, eq-eqb}
+use Rattle.std.specs.Prelude.{Option, Some, None, option_and_then}
+use Rattle.std.specs.List.{list_any}
+use Rattle.std.proofs.lemmas.Bool.{cond_both}
+use Rattle.std.proofs.lemmas.List.{length-replicate}
+use Rattle.genie_base.proofs.Overlaid.{length-overlaid}
+use Rattle.genie_base.specs.declared.region.RegionState.TheVariants.{Live, Out}
+use Rattle.genie_base.specs.declared.semantics.Class.{Class}
+use Rattle.genie_base.specs.declared.semantics.Class.TheVariants.{Copy, Share, Move, WeakMove}
+use Rattle.genie_base.specs.declared.semantics.Direction.{Direction}
+use Rattle.genie_base.specs.declared.semantics.Direction.TheVariants.{Outward, Inward}
+use Rattle.genie_model.specs.State.{State, Region, Transfer}
+use Rattle.genie_model.specs.Regions.{is_region, region_numbered, place_in, write_reach_of, changed_in, change_region, with_state, put}
+use Rattle.genie_model.specs.Pending.{is_early_at, is_numbered, is_just, pending}
+use Rattle.genie_model.specs.Outputs.{moved_out}
+use Rattle.genie_model.specs.Inputs.{address_or_zero}
+use Rattle.genie_model.specs.Ending.{without_transfer, region_of, finish_copy, filled, finish_move, finish_share, finish_weak_move, finish_input, finish_owned, finish_for, finish_found, after_cancel, cancel_found}
+use Rattle.genie_model.specs.Orderly.{moves_into, NumbersDiffer}
+use Rattle.genie_model.proofs.Having.{Has, find_has}
+use Rattle.genie_model.proofs.Finding.{all_of, region_found}
+use Rattle.genie_model.proofs.Changing.{InPlace, in_place_by}
+use Rattle.genie_model.proofs.Naming.{stand_without, none_left}
+use Rattle.genie_model.proofs.Staying.{Stands, put_stands, state_stands, remove_stands, live_place, moved_out_place}
+
+named_region : (s : State) (named : Option ℕ) (r : Region) → option_and_then (region_numbered s) named ≡ Some r → Has r (all_of s.processes) × (is_just named r.number ≡ true)
+named_region s None r e = absurd (cc)
+named_region s (Some k) r e = let f = find_has (is_region k) (all_of s.processes) r (sym (region_found s k) ∙ e) in (f.0, eq-eqb k r.number (sym (eqb-true r.number k f.1)))
+
+filled_place : (s : State) (k : ℕ) (bytes : List ℕ) → InPlace s (change_region s k (filled bytes)) k (filled bytes)
+filled_place s k bytes = in_place_by s (change_region s k (filled bytes)) k (filled bytes) (changed_in k (filled bytes)) refl (λ p. refl) (λ r. refl)
+    (λ r. length-overlaid 0 bytes (replicate (length r.bytes) 0) ∙ length-replicate {A = ℕ} (length r.bytes) 0) (λ u j l. l)
+
+copy_stands : (s : State) (t : Transfer) (o : Option Region) → Stands s → Stands (finish_copy s t o).0
+copy_stands s t None h = h
+copy_stands s t (Some r) h = put_stands s s.transfers h r.number (place_in s r (address_or_zero t.addr)) t.payload
+
+share_stands : (s : State) (t : Transfer) (o : Option Region) → Stands s → Stands (finish_share s t o).0
+share_stands s t None h = h
+share_stands s t (Some r) h = cond_both (is_early_at s t.device) s (put s r.number t.offset t.payload) Stands (λ _. h) (λ _. put_stands s s.transfers h r.number t.offset t.payload)
+
+-- where the transfer is taken away that named the region
+module _ (s : State) (t : Transfer) (none : (r : Region) → region_of s t ≡ Some r → list_any (moves_into r.number) s.transfers ≡ false) (h : Stands s) where
+  move_stands : (o : Option Region) → region_of s t ≡ o → Stands (finish_move s t o).0
+  move_stands None e = h
+  move_stands (Some r) e = state_stands s s.transfers h (change_region s r.number (filled t.payload)) r.number (filled t.payload) (filled_place s r.number t.payload) (none r e)
+
+  live_stands : (w : State) (r : Region) → Stands w → list_any (moves_into r.number) w.transfers ≡ false → Stands (change_region w r.number (with_state Live))
+  live_stands w r g free = state_stands w w.transfers g (change_region w r.number (with_state Live)) r.number (with_state Live) (live_place w r.number) free
+
+  weak_move_stands : (o : Option Region) → region_of s t ≡ o → Stands (finish_weak_move s t o).0
+  weak_move_stands None e = h
+  weak_move_stands (Some r) e = cond_both (is_early_at s t.device) s (put s r.number t.offset t.payload) (λ (w : State). Stands (change_region w r.number (with_state Live)))
+      (λ _. live_stands s r h (none r e)) (λ _. live_stands (put s r.number t.offset t.payload) r (put_stands s s.transfers h r.number t.offset t.payload) (none r e))
+
+  input_stands : (p : ℕ) (class : Class) → Stands (finish_input s p t class).0
+  input_stands p Copy = copy_stands s t (write_reach_of s p (address_or_zero t.addr) t.len) h
+  input_stands p Share = share_stands s t (region_of s t) h
+  input_stands p Move = move_stands (region_of s t) refl
+  input_stands p WeakMove = weak_move_stands (region_of s t) refl
+
+  owned_stands : (p : ℕ) (direction : Direction) → Stands (finish_owned s p t direction).0
+  owned_stands p Outward = h
+  owned_stands p Inward = input_stands p t.class
+
+  for_stands : (o : Option ℕ) → Stands (finish_for s t o).0
+  for_stands None = h
+  for_stands (Some p) = owned_stands p t.direction
+
+  cancel_stands : NumbersDiffer s → (class : Class) (o : Option Region) → region_of s t ≡ o → Stands (after_cancel s class o)
+  cancel_stands differs class None e = h
+  cancel_stands differs Copy (Some r) e = h
+  cancel_stands differs Share (Some r) e = h
+  cancel_stands differs Move (Some r) e = remove_stands s s.transfers h differs r (named_region s t.region r e).0 (none r e)
+  cancel_stands differs WeakMove (Some r) e = state_stands s s.transfers h (moved_out s r.number) r.number (with_state Out) (moved_out_place s r.number) (none r e)
+
+taken_stands : (s : State) (k : ℕ) → Stands s → Stands (without_transfer s k)
+taken_stands s k h = let g = stand_without s s.transfers (is_numbered k) h in record { each = g.each; one = g.one }
+
+taken_none : (s : State) (k : ℕ) (t : Transfer) → Stands s → pending s k ≡ Some t → (r : Region) → region_of (without_transfer s k) t ≡ Some r → list_any (moves_into r.number) (without_transfer s k).transfers ≡ false
+taken_none s k t h e r named = none_left s.transfers (is_numbered k) t r.number h.one e (named_region (without_transfer s k) t.region r named).1
+
+pub finished_stands : (s : State) (k : ℕ) (o : Option Transfer) → pending s k ≡ o → Stands s → Stands (finish_found s k o).0
+finished_stands s k None e h = h
+finished_stands s k (Some t) e h = for_stands (without_transfer s k) t (taken_none s k t h e) (taken_stands s k h) t.owner
+
+pub cancelled_stands : (s : State) (k : ℕ) (o : Option Transfer) → NumbersDiffer s → pending s k ≡ o → Stands s → Stands (cancel_found s k o).0
+cancelled_stands s k None differs e h = h
+cancelled_stands s k (Some t) differs e h = let rest = without_transfer s k in cancel_stands rest t (taken_none s k t h e) (taken_stands s k h) differs t.class (region_of rest t) refl

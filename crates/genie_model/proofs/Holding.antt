@@ -1,0 +1,7 @@
+-- Strong transfers name held regions alone, and no other transfer names those, after every step.
+use Rattle.genie_model.specs.Laws.{Stays}
+use Rattle.genie_model.specs.Orderly.{HeldForOne}
+use Rattle.genie_model.proofs.Serving.{step_well}
+
+pub held_for_one : Stays HeldForOne
+held_for_one s e m whole o = (step_well s e m o).holds

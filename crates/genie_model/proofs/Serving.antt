@@ -1,0 +1,139 @@
+-- What transfers name is there after every step.
+use Rattle.std.proofs.Common.{◌≡◌, ℕ, ◌<◌, Bool, true, false, not, ◌||◌, List, [], ◌∷◌, length, refl, arith}
+use Rattle.std.specs.Prelude.{Option, Some, None, ⊤, nat_lt, sum_by, ◌==◌}
+use Rattle.std.proofs.lemmas.Bool.{cond_both, and_parts, or_parts}
+use Rattle.std.proofs.lemmas.Bool.Decides.{nat_tests}
+use Rattle.genie_base.specs.Regions.{is_accessible}
+use Rattle.genie_base.specs.Transfers.{class_of}
+use Rattle.genie_base.specs.declared.event.Event.{Event}
+use Rattle.genie_base.specs.declared.event.Event.TheVariants.{Spawn, Fork, Exit, Map, Alloc, Unmap, Protect, Read, Write, Output, Input, Send, Recv, Finish, Cancel, Pageout}
+use Rattle.genie_base.specs.declared.refusal.Refusal.{Refusal}
+use Rattle.genie_base.specs.declared.refusal.Refusal.TheVariants as cause
+use Rattle.genie_base.specs.declared.region.Area.TheVariants.{App}
+use Rattle.genie_base.specs.declared.region.RegionState.TheVariants.{Live}
+use Rattle.genie_base.specs.declared.reply.Mark.{Mark}
+use Rattle.genie_base.specs.declared.reply.Mark.TheVariants as mark
+use Rattle.genie_model.specs.Refusing.{first_cause, causes, over_backing, accessible_pages, refuse}
+use Rattle.genie_model.specs.State.{State, Region}
+use Rattle.genie_model.specs.Tables.{entry}
+use Rattle.genie_model.specs.Regions.{regions_at, is_here, is_alive, place_in, reach_of}
+use Rattle.genie_model.specs.Pending.{pending}
+use Rattle.genie_model.specs.Space.{zeros, zeros_at_place, remove_found, region_from, starts_at, protect_found, stored}
+use Rattle.genie_model.specs.Step.{Outcome, perform, accept, may_fail, uses_store, with_budget, failed, marked, answer, step}
+use Rattle.genie_model.specs.Orderly.{RangesLie, HeldForOne, IsOrderly}
+use Rattle.genie_model.proofs.Causes.{first_none}
+use Rattle.genie_model.proofs.Having.{find_has}
+use Rattle.genie_model.proofs.Finding.{has_region}
+use Rattle.genie_model.proofs.Standing.{orderly_stand, accessible_free, tidied_ranges, tidied_holds}
+use Rattle.genie_model.proofs.Staying.{Stands, put_stands, protect_stands, remove_stands, add_stands, fresh_free, spawn_stands, fork_stands}
+use Rattle.genie_model.proofs.Leaving.{exit_stands}
+use Rattle.genie_model.proofs.Calling.{output_stands, input_stands}
+use Rattle.genie_model.proofs.Landing.{sent_stands, received_stands}
+use Rattle.genie_model.proofs.Finishing.{finished_stands, cancelled_stands}
+use Rattle.genie_model.proofs.Unused.{few_numbers}
+
+-- what is known of an event that isn't refused
+abbrev Allowed : State → Event → Type 0
+Allowed s (Spawn p) = entry s.processes p ≡ None
+Allowed s (Fork p q) = (q < 16) × (entry s.processes q ≡ None)
+Allowed s (Input p sem d port flow a n) = is_alive s p ≡ true
+Allowed s _ = ⊤
+
+none_here : {X : Type 0} (o : Option X) → is_here o ≡ false → o ≡ None
+none_here None e = refl
+none_here (Some x) e = absurd (cc)
+
+alive_entry : {X : Type 0} (o : Option X) → is_here o ≡ true → (x : X) × (o ≡ Some x)
+alive_entry None e = absurd (cc)
+alive_entry (Some x) e = (x, refl)
+
+not_false : (b : Bool) → not b ≡ false → b ≡ true
+not_false true e = refl
+not_false false e = absurd (cc)
+
+first_test : List (Bool × Refusal) → Bool
+first_test [] = false
+first_test (x ∷ rows) = x.0
+
+first_fails : (rows : List (Bool × Refusal)) → first_cause rows ≡ None → first_test rows ≡ false
+unfolding first_test
+first_fails [] h = refl
+first_fails (x ∷ rows) h = (first_none x rows h).0
+
+allowed : (s : State) (e : Event) → refuse s e ≡ None → Allowed s e
+unfolding first_test
+allowed s (Spawn p) h = none_here (entry s.processes p) (first_none (is_alive s p, cause.Exists) [] (first_none (nat_lt 15 p, cause.Proc) ((is_alive s p, cause.Exists) ∷ []) h).1).0
+allowed s (Fork p q) h =
+    let last : List (Bool × Refusal) = (over_backing s (sum_by accessible_pages (regions_at s p)), cause.Backing) ∷ [] in
+    let first = first_none (not (is_alive s p) || nat_lt 15 q, cause.Proc) ((is_alive s q, cause.Exists) ∷ last) h in
+    let high = (or_parts (not (is_alive s p)) (nat_lt 15 q) first.0).1 in
+    (grind (arith, nat_tests), none_here (entry s.processes q) (first_none (is_alive s q, cause.Exists) last first.1).0)
+allowed s (Input p sem d port flow a n) h = not_false (is_alive s p) (first_fails (causes s (Input p sem d port flow a n)) h)
+allowed s e h = tt
+
+remove_stands_found : (s : State) (p g : ℕ) (o : Option Region) → IsOrderly s → region_from s p g ≡ o → Stands s → Stands (remove_found s o)
+remove_stands_found s p g None o e h = h
+remove_stands_found s p g (Some r) o e h =
+    let found = find_has (starts_at g) (regions_at s p) r e in
+    let there = has_region s p r found.0 in
+    remove_stands s s.transfers h o.numbers r there (accessible_free s s.transfers o.numbers h.each r there (and_parts (is_accessible r.state) (r.start == g) found.1).0)
+
+protect_found_stands : (s : State) (o : Option Region) (writable : Bool) → Stands s → Stands (protect_found s o writable)
+protect_found_stands s None writable h = h
+protect_found_stands s (Some r) writable h = protect_stands s s.transfers h r.number writable
+
+stored_stands : (s : State) (o : Option Region) (a : ℕ) (bytes : List ℕ) → Stands s → Stands (stored s o a bytes)
+stored_stands s None a bytes h = h
+stored_stands s (Some r) a bytes h = put_stands s s.transfers h r.number (place_in s r a) bytes
+
+perform_stands : (s : State) (e : Event) → IsOrderly s → Allowed s e → Stands s → Stands (perform s e).0
+perform_stands s (Spawn p) o may h = spawn_stands s p may h
+perform_stands s (Fork p q) o may h = fork_stands s p q o may h
+perform_stands s (Exit p) o may h = exit_stands s p o.numbers h
+perform_stands s (Map p g n) o may h = add_stands s s.transfers h p (zeros s App Live g n) (fresh_free s (few_numbers s o))
+perform_stands s (Alloc p n) o may h = add_stands s s.transfers h p (zeros_at_place s Live p n) (fresh_free s (few_numbers s o))
+perform_stands s (Unmap p g) o may h = remove_stands_found s p g (region_from s p g) o refl h
+perform_stands s (Protect p g writable) o may h = protect_found_stands s (region_from s p g) writable h
+perform_stands s (Read p a n) o may h = h
+perform_stands s (Write p a bytes) o may h = stored_stands s (reach_of s p a (length bytes)) a bytes h
+perform_stands s (Output p sem d port flow a n) o may h = output_stands s p (class_of sem) (record { device = d; port = port; flow = flow }) a n (reach_of s p a n) o refl h
+perform_stands s (Input p sem d port flow a n) o may h = let x = alive_entry (entry s.processes p) may in input_stands s p (record { device = d; port = port; flow = flow }) n o x.0 x.1 h (class_of sem) a
+perform_stands s (Send d n) o may h = sent_stands s d n h
+perform_stands s (Recv d n) o may h = received_stands s d n h
+perform_stands s (Finish k) o may h = finished_stands s k (pending s k) refl h
+perform_stands s (Cancel k) o may h = cancelled_stands s k (pending s k) o.numbers refl h
+perform_stands s (Pageout n) o may h = h
+
+-- both laws of what transfers name
+pub record NamesWell (s : State) : Type 0 where
+  pub ranges : RangesLie s
+  pub holds : HeldForOne s
+
+same : (s : State) → IsOrderly s → NamesWell s
+same s o = record { ranges = o.ranges; holds = o.holds }
+
+accept_well : (s : State) (e : Event) → IsOrderly s → Allowed s e → NamesWell (accept s e).0
+accept_well s e o may =
+    let t : State = (perform s e).0 in
+    let h = perform_stands s e o may (orderly_stand s o) in
+    record { ranges = tidied_ranges t h; holds = tidied_holds t h }
+
+budget_allowed : (s : State) (e : Event) (k : ℕ) → Allowed s e → Allowed s (with_budget e k)
+budget_allowed s (Send d n) k h = tt
+budget_allowed s (Recv d n) k h = tt
+budget_allowed s e k h = h
+
+failed_well : (s : State) (e : Event) (k : ℕ) → IsOrderly s → Allowed s e → NamesWell (failed s e k).0
+failed_well s e k o may = cond_both (k == 0) s (accept s (with_budget e k)).0 NamesWell (λ _. same s o) (λ _. accept_well s (with_budget e k) o (budget_allowed s e k may))
+
+marked_well : (s : State) (e : Event) (m : Mark) → IsOrderly s → Allowed s e → NamesWell (marked s e m).0
+marked_well s e mark.NoFault o may = accept_well s e o may
+marked_well s e mark.Store o may = cond_both (uses_store e) _ (accept s e) (λ (x : Outcome). NamesWell x.0) (λ _. same s o) (λ _. accept_well s e o may)
+marked_well s e (mark.Device k) o may = cond_both (may_fail s e k) (failed s e k) (accept s e) (λ (x : Outcome). NamesWell x.0) (λ _. failed_well s e k o may) (λ _. accept_well s e o may)
+
+answer_well : (s : State) (e : Event) (m : Mark) (refusal : Option Refusal) → refuse s e ≡ refusal → IsOrderly s → NamesWell (answer s e m refusal).0
+answer_well s e m None h o = marked_well s e m o (allowed s e h)
+answer_well s e m (Some refusal) h o = same s o
+
+pub step_well : (s : State) (e : Event) (m : Mark) → IsOrderly s → NamesWell (step s e m).0
+step_well s e m o = answer_well s e m (refuse s e) refl o

@@ -1,0 +1,6 @@
+-- Strong transfers name held regions alone.
+use Rattle.genie_model.proofs.laws.held_for_one.Goals as goal
+use Rattle.genie_model.proofs.Holding.{held_for_one}
+
+pub returns : goal.returns
+returns c = held_for_one
