@@ -1,12 +1,11 @@
 -- Runs of events of other levels, under other thresholds.
 use Rattle.std.proofs.Common.{◌≡◌, ℕ, List, [], ◌∷◌, map, refl, sym, ap, ◌∙◌}
-use Rattle.std.specs.Prelude.{All}
 use Rattle.std.proofs.lemmas.List.Elements.{All-head, All-tail}
 use Rattle.genie_base.specs.Events.{mark_of}
 use Rattle.genie_base.specs.declared.event.Event.{Event}
 use Rattle.genie_base.specs.declared.reply.Mark.TheVariants.{NoFault}
 use Rattle.genie_base.specs.declared.reply.Reply.{Reply}
-use Rattle.genie_model.specs.Laws.{basic_event, outcome_with_thresholds, RunsAlike, ShowNoFault, with_thresholds}
+use Rattle.genie_model.specs.Laws.{basic_event, outcome_with_thresholds, RunsAlike, with_thresholds}
 use Rattle.genie_model.specs.State.{State}
 use Rattle.genie_model.specs.Step.{Outcome, step, Follows}
 use Rattle.genie_model.proofs.Levels.{levels_step_alike}

@@ -1,6 +1,6 @@
 -- Every state that a run reaches is orderly.
-use Rattle.std.proofs.Common.{◌≡◌, ℕ, ◌∙◌, List, [], ◌∷◌, refl, sym, arith}
-use Rattle.std.specs.Prelude.{Option, None, IsTrue, All, replicate}
+use Rattle.std.proofs.Common.{ℕ, List, [], ◌∷◌, refl, sym, arith}
+use Rattle.std.specs.Prelude.{Option, None, IsTrue, All}
 use Rattle.std.proofs.lemmas.List.Elements.{All-head, All-tail, All-replicate}
 use Rattle.genie_base.specs.Configs.{Config, Fits}
 use Rattle.genie_base.specs.Events.{is_whole, mark_of}

@@ -1,5 +1,5 @@
 -- A step that is refused, and one that the store fails.
-use Rattle.std.proofs.Common.{◌≡◌, ℕ, true, false, refl}
+use Rattle.std.proofs.Common.{◌≡◌, refl}
 use Rattle.std.proofs.lemmas.Bool.{cond_both}
 use Rattle.std.specs.Prelude.{Option, Some, None, IsTrue}
 use Rattle.genie_base.specs.declared.event.Event.{Event}

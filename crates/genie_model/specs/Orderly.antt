@@ -8,7 +8,7 @@ use Rattle.genie_base.specs.declared.region.Area.TheVariants.{App, Sys}
 use Rattle.genie_base.specs.declared.region.RegionState.{RegionState}
 use Rattle.genie_base.specs.declared.region.RegionState.TheVariants.{Live, Out, In, Held}
 use Rattle.genie_base.specs.declared.semantics.Class.{Class}
-use Rattle.genie_base.specs.declared.semantics.Class.TheVariants.{Copy, Share, Move, WeakMove}
+use Rattle.genie_base.specs.declared.semantics.Class.TheVariants.{Copy, Move}
 use Rattle.genie_model.specs.State.{State, Region, Orphan, Process, Transfer}
 use Rattle.genie_model.specs.Regions.{extent_of, regions_of, regions_at, is_region, region_numbered, orphan_numbered, committed}
 use Rattle.genie_model.specs.Pending.{names, wired}

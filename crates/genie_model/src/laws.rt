@@ -105,7 +105,6 @@ pub fn held_for_one()
 {}
 
 /// Every state that a run reaches is orderly: it has all of this.
-#[tactic(auto, using(crate::proofs::Orderly::runs_stay_orderly))]
 pub fn runs_stay_orderly()
     ensures { RunsStayOrderly }
 {}
