@@ -1,5 +1,5 @@
 use Rattle.std.proofs.Common.{◌≡◌}
-use Rattle.genie_replay.proofs.tests.add_files.Given as goal
+use Rattle.genie_rows.proofs.tests.add_files.Given as goal
 
 abbrev pub invariant-inputs : goal.invariant-inputs
 invariant-inputs l = l.host.opened ≡ l.fn.host.opened
