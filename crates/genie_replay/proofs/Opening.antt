@@ -23,7 +23,7 @@ use Rattle.genie_replay.specs.Outcome.{HasAll, HasFront, IsOutcome, OutcomeOf, R
 use Rattle.genie_replay.specs.Statuses.{status_of}
 use Rattle.genie_replay.specs.Write.{AppendsFront}
 use Rattle.genie_replay.proofs.Filing.{inputs_map, outputs_map}
-use Rattle.genie_replay.proofs.Starting.{KeptInput, sets_boot}
+use Rattle.genie_replay.proofs.Starting.{KeptInput, sets_boot, sets_some}
 
 keeps_same : (k : Option (List ℕ)) → Keeps k k
 keeps_same None = tt
@@ -79,7 +79,13 @@ still_fresh : (script : List ℕ) (p : Part) (old read new mid : HostView) (star
 still_fresh script p old read new mid start o b = outputs_both (IsFresh old new) (IsSameHandle new mid) (IsFresh old mid) 1 p.devices (λ n h f same. rw same f) o.outputs b.outputs
 
 begins : (script : List ℕ) (p : Part) (old read new mid : HostView) (start : State) → Opened script p.devices old read new → Started p new mid start → IsBoot old.names p.config p.devices start
-begins script p old read new mid start o b told = sets_boot old.names p.config (λ _. []) new 1 p.devices start told (inputs_map (IsFreshFor old new) (KeptInput old.names new) 1 p.devices (λ name h later f. f.whole) o.inputs) b.sets
+begins script p old read new mid start o b =
+    let some = sets_some p.config (λ _. []) new 1 p.devices start b.sets in
+    record {
+      inputs = some.0;
+      boots = some.1;
+      told = λ told. sets_boot old.names p.config (λ _. []) new 1 p.devices start told (inputs_map (IsFreshFor old new) (KeptInput old.names new) 1 p.devices (λ name h later f. f.whole) o.inputs) b.sets;
+    }
 
 ran : (script : List ℕ) (p : Part) (events : List Numbered) (old read new mid end : HostView) (start : State) → Opened script p.devices old read new → Started p new mid start → RunsAll start p.devices events mid end → Ran script p.config p.devices events old end
 ran script p events old read new mid end start o b r = record {

@@ -85,6 +85,9 @@ abbrev pub AreTold : (List ℕ → Option (List ℕ)) → List DeviceLine → Ty
 AreTold names [] = ⊤
 AreTold names (d ∷ devices) = IsTold names d.input × AreTold names devices
 
--- Where the host tells the bytes of each input, this is the boot of the configuration with these inputs.
-abbrev pub IsBoot : (List ℕ → Option (List ℕ)) → Config → List DeviceLine → State → Type 0
-IsBoot names c devices start = AreTold names devices → start ≡ boot c (inputs_from names (λ _. []) devices)
+-- How a run begins: always with a boot of the configuration, with some inputs. Where the host tells the bytes of each
+-- device's input, the inputs are these.
+pub record IsBoot (names : List ℕ → Option (List ℕ)) (c : Config) (devices : List DeviceLine) (start : State) : Type 0 where
+  pub inputs : ℕ → List ℕ
+  pub boots : start ≡ boot c inputs
+  pub told : AreTold names devices → start ≡ boot c (inputs_from names (λ _. []) devices)
