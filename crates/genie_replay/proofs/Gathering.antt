@@ -11,7 +11,7 @@ use Rattle.genie_model.specs.State.{State}
 use Rattle.genie_script.specs.declared.line.DeviceLine.{DeviceLine}
 use Rattle.genie_replay.specs.declared.inputs.Unread.{Unread}
 use Rattle.genie_replay.specs.declared.inputs.Unread.TheVariants as unread
-use Rattle.genie_replay.specs.Files.{HoldsOfFile, HoldsOfInputs, IsReading, IsSameHandle, KeptUpTo, SameFaults, file_opening, openings_of}
+use Rattle.genie_replay.specs.Files.{HoldsOfFile, HoldsOfInputs, IsReading, IsSameHandle, KeptUpTo, OnlyReads, SameFaults, file_opening, openings_of}
 use Rattle.genie_replay.specs.Inputs.{Counts, HasInputs, ReadsInput, ReadsInputs, SetsInput, SetsInputs, Tells}
 use Rattle.genie_replay.proofs.Filing.{inputs_map, only_faults, outputs_all, outputs_map, same_faults, same_trans}
 use Rattle.genie_replay.proofs.Reading.{consumes_more}
@@ -56,6 +56,10 @@ input_others (Some name) n handle machine after old mid r i h other = i.0.others
 input_tried : (o : Option (List ℕ)) (n handle : ℕ) (machine after : Option State) (old mid : HostView) (r : Result (Unit {0}) Unread) → ReadsInput o n handle machine after old mid r → mid.tried ≡ old.tried
 input_tried None n handle machine after old mid r i = rw i.0 refl
 input_tried (Some name) n handle machine after old mid r i = i.0.tried
+
+input_opened : (o : Option (List ℕ)) (n handle : ℕ) (machine after : Option State) (old mid : HostView) (r : Result (Unit {0}) Unread) → ReadsInput o n handle machine after old mid r → mid.opened ≡ old.opened
+input_opened None n handle machine after old mid r i = rw i.0 refl
+input_opened (Some name) n handle machine after old mid r i = i.0.opened
 
 input_faults : (o : Option (List ℕ)) (n handle : ℕ) (machine after : Option State) (old mid : HostView) (u : Unit {0}) → ReadsInput o n handle machine after old mid (Ok u) → SameFaults old mid
 input_faults None n handle machine after old mid u i = rw i.0 (same_faults old)
@@ -115,8 +119,8 @@ before_same : (o : Option (List ℕ)) (n opened : ℕ) (machine after : Option S
 before_same o n opened machine after old mid r i k low = input_others o n (opened + 1) machine after old mid r i k (λ e. omega (arith, e, low))
 
 pub read_none : (opened : ℕ) (machine : Option State) (v : HostView) → ReadsInputs opened [] machine machine v v (Ok tt)
-read_none opened None v = record { kept = λ k low. refl; outputs = tt; tried = refl; counts = same_faults v; has = tt }
-read_none opened (Some s) v = record { kept = λ k low. refl; outputs = tt; tried = refl; counts = same_faults v; has = record { now = s; is = refl; sets = refl } }
+read_none opened None v = record { kept = λ k low. refl; outputs = tt; tried = refl; none_opened = refl; counts = same_faults v; has = tt }
+read_none opened (Some s) v = record { kept = λ k low. refl; outputs = tt; tried = refl; none_opened = refl; counts = same_faults v; has = record { now = s; is = refl; sets = refl } }
 
 more_counts : (old mid new : HostView) (r : Result (Unit {0}) Unread) → SameFaults old mid → Counts mid new r → Counts old new r
 more_counts old mid new (Ok u) a b = same_trans old mid new a b
@@ -152,6 +156,7 @@ read_more opened count all ds d machine between after old mid new u r is counted
         outputs_map (IsSameHandle mid new) (IsSameHandle old new) (opened + length (openings_of d)) ds (λ n h later e. e ∙ later_same d d.input refl opened machine between old mid (Ok u) i h later) p.outputs,
       );
       tried = p.tried ∙ input_tried d.input d.number (opened + 1) machine between old mid (Ok u) i;
+      none_opened = p.none_opened ∙ input_opened d.input d.number (opened + 1) machine between old mid (Ok u) i;
       counts = more_counts old mid new r (input_faults d.input d.number (opened + 1) machine between old mid u i) p.counts;
       has = more_has d opened ds machine between after old mid new u r i p;
     })
@@ -166,6 +171,11 @@ read_failed opened all ds d machine after old new e is i = rw is (record {
     outputs_all (IsSameHandle old new) (opened + length (openings_of d)) ds (λ n h later. later_same d d.input refl opened machine after old new (Err e) i h later),
   );
   tried = input_tried d.input d.number (opened + 1) machine after old new (Err e) i;
+  none_opened = input_opened d.input d.number (opened + 1) machine after old new (Err e) i;
   counts = input_counts d.input d.number (opened + 1) machine after old new e i;
   has = tt;
 })
+
+-- behind the script's opening
+pub only_reads : (ds : List DeviceLine) (machine after : Option State) (old mid : HostView) (r : Result (Unit {0}) Unread) → ReadsInputs 1 ds machine after old mid r → OnlyReads ds old mid
+only_reads ds machine after old mid r i = record { replies = i.kept 0 (omega arith); outputs = i.outputs; tried = i.tried; opened = i.none_opened }

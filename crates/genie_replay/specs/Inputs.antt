@@ -53,11 +53,12 @@ pub record HasInputs (old : HostView) (opened : ℕ) (devices : List DeviceLine)
   pub is : machine ≡ Some now
   pub sets : SetsInputs old opened devices s now
 
--- reading the inputs: the outputs and the handles before stay as they are
+-- reading the inputs: the outputs and the handles before stay as they are, and nothing is opened
 pub record ReadsInputs (opened : ℕ) (devices : List DeviceLine) (machine after : Option State) (old new : HostView) (result : Result (Unit {0}) Unread) : Type 0 where
   pub kept : KeptUpTo opened old new
   pub outputs : HoldsOfOutputs (IsSameHandle old new) opened devices
   pub tried : new.tried ≡ old.tried
+  pub none_opened : new.opened ≡ old.opened
   pub counts : Counts old new result
   pub has : OnOk result (IfSome machine (λ s. HasInputs old opened devices s after))
 
