@@ -9,7 +9,7 @@ use Rattle.genie_base.specs.declared.semantics.Direction.TheVariants.{Inward, Ou
 use Rattle.genie_model.specs.Flat.{sent_of}
 use Rattle.genie_model.specs.State.{State}
 use Rattle.genie_script.specs.declared.line.DeviceLine.{DeviceLine}
-use Rattle.genie_replay.specs.Files.{file_opening, openings_of, HandleRose, HasSent, HasSentFront, HoldsOfFile, HoldsOfInput, HoldsOfInputs, HoldsOfOutputs, IsFresh, IsFreshFor, IsFreshInput, IsFreshOutput, IsUnwritten, IsWriting, KeptUpTo, Opening, OpensAll, SameFaults, WritesFile, WritesFiles}
+use Rattle.genie_replay.specs.Files.{file_opening, openings_of, HandleRose, HasSent, HasSentFront, HoldsOfFile, HoldsOfInput, HoldsOfInputs, HoldsOfOutputs, IsFresh, IsFreshFor, IsFreshInput, IsFreshOutput, IsUnwritten, IsWriting, KeptUpTo, Opening, OpensAll, SameFaults, WritesFile, WritesFiles, last_handle}
 use Rattle.genie_replay.specs.Write.{AppendsFront}
 use Rattle.genie_replay.proofs.Writing.{appends_nothing}
 
@@ -51,14 +51,21 @@ file_given : (P : ℕ → ℕ → Type 0) (o : Option (List ℕ)) (n h : ℕ) �
 file_given P None n h p = tt
 file_given P (Some name) n h p = p
 
+-- the last handle of a line is one of all lines, and so is that of the lines behind it
+pub line_within : (opened : ℕ) (d : DeviceLine) (ds : List DeviceLine) → opened + length (openings_of d) ≤ last_handle opened (d ∷ ds)
+line_within opened d ds = omega (arith, length-append (openings_of d) (flat_map openings_of ds))
+
+pub lines_within : (opened : ℕ) (d : DeviceLine) (ds : List DeviceLine) → last_handle (opened + length (openings_of d)) ds ≤ last_handle opened (d ∷ ds)
+lines_within opened d ds = omega (arith, length-append (openings_of d) (flat_map openings_of ds))
+
 -- the outputs' handles are among those of the files
-pub outputs_within : (opened : ℕ) (ds : List DeviceLine) → HoldsOfOutputs (λ n h. h ≤ opened + length (flat_map openings_of ds)) opened ds
+pub outputs_within : (opened : ℕ) (ds : List DeviceLine) → HoldsOfOutputs (λ n h. h ≤ last_handle opened ds) opened ds
 outputs_within opened [] = tt
-outputs_within opened (d ∷ ds) =
-    let size = length-append (openings_of d) (flat_map openings_of ds) in (
-      file_given (λ n h. h ≤ opened + length (flat_map openings_of (d ∷ ds))) d.output d.number (opened + length (openings_of d)) (omega (arith, size)),
-      outputs_map (λ n h. h ≤ opened + length (openings_of d) + length (flat_map openings_of ds)) (λ n h. h ≤ opened + length (flat_map openings_of (d ∷ ds))) (opened + length (openings_of d)) ds (λ n h later low. omega (arith, size, low)) (outputs_within (opened + length (openings_of d)) ds),
-    )
+outputs_within opened (d ∷ ds) = (
+  file_given (λ n h. h ≤ last_handle opened (d ∷ ds)) d.output d.number (opened + length (openings_of d)) (line_within opened d ds),
+  outputs_map (λ n h. h ≤ last_handle (opened + length (openings_of d)) ds) (λ n h. h ≤ last_handle opened (d ∷ ds)) (opened + length (openings_of d)) ds
+      (λ n h later low. omega (arith, low, lines_within opened d ds)) (outputs_within (opened + length (openings_of d)) ds),
+)
 
 pub same_faults : (v : HostView) → SameFaults v v
 same_faults v = record { handles = λ k. refl; refusals = refl }
@@ -162,6 +169,10 @@ file_tried : {E : Type 0} (o : Option (List ℕ)) (s : State) (n last : ℕ) (ol
 file_tried None s n last old mid r w = rw w.0 refl
 file_tried (Some name) s n last old mid r w = w.only.tried
 
+file_opened : {E : Type 0} (o : Option (List ℕ)) (s : State) (n last : ℕ) (old mid : HostView) (r : Result (Unit {0}) E) → WritesFile o s n last old mid r → mid.opened ≡ old.opened
+file_opened None s n last old mid r w = rw w.0 refl
+file_opened (Some name) s n last old mid r w = w.only.opened
+
 -- handles up to the one before the line's files stay
 kept_before : {E : Type 0} (d : DeviceLine) (o : Option (List ℕ)) → d.output ≡ o → (s : State) (opened : ℕ) (old mid : HostView) (r : Result (Unit {0}) E) → WritesFile o s d.number (opened + length (openings_of d)) old mid r → KeptUpTo opened old mid
 kept_before d None is s opened old mid r w k low = rw w.0 refl
@@ -188,19 +199,24 @@ failed_front : {E : Type 0} (o : Option (List ℕ)) (s : State) (n last : ℕ) (
 failed_front None s n last old new e w = tt
 failed_front (Some name) s n last old new e w = w.front
 
-failed_cause : {E : Type 0} (o : Option (List ℕ)) (s : State) (n last : ℕ) (old new : HostView) (e : E) → WritesFile o s n last old new (Err e) → HandleRose old new
-failed_cause None s n last old new e w = absurd w.1
-failed_cause (Some name) s n last old new e w = (last, w.cause.failed)
+failed_cause : {E : Type 0} (o : Option (List ℕ)) (s : State) (n last most : ℕ) (old new : HostView) (e : E) → last ≤ most → WritesFile o s n last old new (Err e) → HandleRose most old new
+failed_cause None s n last most old new e low w = absurd w.1
+failed_cause (Some name) s n last most old new e low w = (last, low, w.cause.failed)
+
+-- a count that rose behind calls that counted nothing
+pub rose_after : (u v w : HostView) (most all : ℕ) → most ≤ all → SameFaults u v → HandleRose most v w → HandleRose all u w
+rose_after u v w most all within same rose = (rose.0, omega (arith, within, rose.1), rw (← same.handles rose.0) rose.2)
 
 -- no output is left
 pub files_none : (E : Type 0) (flat : Option State) (opened : ℕ) (v : HostView) → IfSome flat (λ s. WritesFiles {E = E} s opened [] v v (Ok tt))
 files_none E None opened v = tt
-files_none E (Some s) opened v = record { kept = λ k low. refl; tried = refl; whole = tt; front = tt; cause = tt; faults = same_faults v }
+files_none E (Some s) opened v = record { kept = λ k low. refl; tried = refl; none_opened = refl; whole = tt; front = tt; cause = tt; faults = same_faults v }
 
 all_whole : (E : Type 0) (s : State) (opened : ℕ) (d : DeviceLine) (ds : List DeviceLine) (old mid new : HostView) (u : Unit {0}) (r : Result (Unit {0}) E) → WritesFile {E = E} d.output s d.number (opened + length (openings_of d)) old mid (Ok u) → WritesFiles s (opened + length (openings_of d)) ds mid new r → WritesFiles s opened (d ∷ ds) old new r
 all_whole E s opened d ds old mid new u (Ok v) w p = record {
   kept = λ k low. p.kept k (omega arith) ∙ kept_before {E = E} d d.output refl s opened old mid (Ok u) w k low;
   tried = p.tried ∙ file_tried {E = E} d.output s d.number _ old mid (Ok u) w;
+  none_opened = p.none_opened ∙ file_opened {E = E} d.output s d.number _ old mid (Ok u) w;
   whole = (
     head_sent E d.output s d.number _ old mid new u w p.kept,
     outputs_map (HasSent s mid new) (HasSent s old new) _ ds (λ n h later a. let same : mid.handle h ≡ old.handle h = others_kept {E = E} d.output s d.number _ old mid (Ok u) w h (λ e. omega (arith, e, later)) in rw (← same) a) p.whole,
@@ -212,15 +228,13 @@ all_whole E s opened d ds old mid new u (Ok v) w p = record {
 all_whole E s opened d ds old mid new u (Err e) w p = record {
   kept = λ k low. p.kept k (omega arith) ∙ kept_before {E = E} d d.output refl s opened old mid (Ok u) w k low;
   tried = p.tried ∙ file_tried {E = E} d.output s d.number _ old mid (Ok u) w;
+  none_opened = p.none_opened ∙ file_opened {E = E} d.output s d.number _ old mid (Ok u) w;
   whole = tt;
   front = (
     head_front E d.output s d.number _ old mid new u w p.kept,
     outputs_map (HasSentFront s mid new) (HasSentFront s old new) _ ds (λ n h later a. let same : mid.handle h ≡ old.handle h = others_kept {E = E} d.output s d.number _ old mid (Ok u) w h (λ e. omega (arith, e, later)) in rw (← same) a) p.front,
   );
-  cause =
-      let faults = file_faults E d.output s d.number _ old mid u w in
-      let rose = p.cause in
-      (rose.0, rw (← faults.handles rose.0) rose.1);
+  cause = rose_after old mid new (last_handle (opened + length (openings_of d)) ds) (last_handle opened (d ∷ ds)) (lines_within opened d ds) (file_faults E d.output s d.number _ old mid u w) p.cause;
   faults = tt;
 }
 
@@ -239,12 +253,13 @@ files_failed (Some s) opened count all ds d old new e is counted w =
     rw is (record {
       kept = kept_before d d.output refl s opened old new (Err e) f;
       tried = file_tried d.output s d.number _ old new (Err e) f;
+      none_opened = file_opened d.output s d.number _ old new (Err e) f;
       whole = tt;
       front = (
         failed_front d.output s d.number _ old new e f,
         outputs_all (HasSentFront s old new) _ ds (λ n h later. let same : new.handle h ≡ old.handle h = others_kept d.output s d.number _ old new (Err e) f h (λ x. omega (arith, x, later)) in rw same (front_none (old.handle h).bytes (sent_of s n))),
       );
-      cause = failed_cause d.output s d.number _ old new e f;
+      cause = failed_cause d.output s d.number _ (last_handle opened (d ∷ ds)) old new e (line_within opened d ds) f;
       faults = tt;
     })
 

@@ -17,7 +17,7 @@ use Rattle.genie_replay.specs.declared.status.Status.{Status}
 use Rattle.genie_replay.specs.declared.status.Status.TheVariants as status
 use Rattle.genie_replay.specs.Booted.{Booted as Run, Cut, Runs, RunsAll, RunsBooted, RunsFrom, RunsInPart, Started}
 use Rattle.genie_replay.specs.Booting.{ReadsBoot}
-use Rattle.genie_replay.specs.Files.{HasSent, HasSentFront, HoldsOfInputs, HoldsOfOutputs, IsFresh, IsFreshFor, IsFreshInput, IsFreshOutput, IsReading, IsSameHandle, IsUnwritten, IsWriting, KeptBehind, KeptUpTo, OnlyReads, Opening, OpensAll, openings_of}
+use Rattle.genie_replay.specs.Files.{HasSent, HasSentFront, HoldsOfInputs, HoldsOfOutputs, IsFresh, IsFreshFor, IsFreshInput, IsFreshOutput, IsReading, IsSameHandle, IsUnwritten, IsWriting, KeptBehind, KeptUpTo, OnlyReads, Opening, OpensAll, last_handle, openings_of}
 use Rattle.genie_replay.specs.Inputs.{HasInputs, IsBoot, ReadsInputs}
 use Rattle.genie_replay.specs.Outcome.{CutOf, CutShort, HasAll, HasFront, IsOutcome, OutcomeOf, Ran, RanInPart, RanNothing, openings}
 use Rattle.genie_replay.specs.Statuses.{status_of}
@@ -70,7 +70,7 @@ pub record Opened (script : List ℕ) (ds : List DeviceLine) (old read new : Hos
   pub inputs : HoldsOfInputs (IsFreshFor old new) 1 ds
   pub tried : new.tried ≡ old.tried ++ openings script ds
   pub none : old.opened ≡ 0
-  pub count : new.opened ≡ 1 + length (flat_map openings_of ds)
+  pub count : new.opened ≡ last_handle 1 ds
 
 pub opened : {E : Type 0} (script : List ℕ) (ds : List DeviceLine) (content : Option (List ℕ)) (e : E) (h : ℕ) (old first read new : HostView) → old.opened ≡ 0
     → Opens script Inward Reading content e old first (Ok h) → OnlyHandle 1 first read → OpensAll (flat_map openings_of ds) read new → KeptUpTo read.opened read new → HoldsOfOutputs (IsFresh read new) read.opened ds → HoldsOfInputs (IsFreshFor read new) read.opened ds → Opened script ds old read new
@@ -146,7 +146,7 @@ started_outcome (status.BadBoot l) script p before lines old read new mid end st
 short_read : (script : List ℕ) (ds : List DeviceLine) (old read new end : HostView) → Opened script ds old read new → OnlyReads ds new end → CutShort script ds old end
 short_read script ds old read new end o c =
     let none : old.opened ≡ 0 = o.none in
-    let count : end.opened ≡ 1 + length (flat_map openings_of ds) = c.opened ∙ o.count in
+    let count : end.opened ≡ last_handle 1 ds = c.opened ∙ o.count in
     record {
       written = rw (c.replies, o.replies) (keeps_same (old.handle 0).bytes);
       tried = record {
@@ -157,7 +157,7 @@ short_read script ds old read new end o c =
         opened = omega (arith, count);
         refused = omega (arith, count, none);
       };
-      outputs = outputs_both (λ n h. h ≤ 1 + length (flat_map openings_of ds)) (IsFresh old end) (IsUnwritten old end) 1 ds (λ n h low f. fresh_unwritten old end n h (omega (arith, low, count)) f) (outputs_within 1 ds) (still_fresh script ds old read new end o c);
+      outputs = outputs_both (λ n h. h ≤ last_handle 1 ds) (IsFresh old end) (IsUnwritten old end) 1 ds (λ n h low f. fresh_unwritten old end n h (omega (arith, low, count)) f) (outputs_within 1 ds) (still_fresh script ds old read new end o c);
     }
 
 pub short_opening : {E F T : Type 0} (script : List ℕ) (ds : List DeviceLine) (content : Option (List ℕ)) (e : E) (f x : F) (h : ℕ) (old first read end : HostView) → old.opened ≡ 0

@@ -1,5 +1,5 @@
 -- The files of the devices: how they are opened, and which handle each output has.
-use Rattle.std.specs.Prelude.{◌≡◌, ℕ, ◌+◌, ◌<◌, ◌≤◌, List, [], ◌∷◌, ◌++◌, length, Option, None, Some, Result, OnOk, OnErr, IsErrOf, ⊤}
+use Rattle.std.specs.Prelude.{◌≡◌, ℕ, ◌+◌, ◌<◌, ◌≤◌, List, [], ◌∷◌, ◌++◌, flat_map, length, Option, None, Some, Result, OnOk, OnErr, IsErrOf, ⊤}
 use Rattle.std.specs.Io.KnownBytes.{Appends, Keeps}
 use Rattle.genie_base.specs.Causes.{Rose}
 use Rattle.genie_base.specs.declared.semantics.Direction.{Direction}
@@ -121,9 +121,13 @@ HasSent s old new number handle = Appends (old.handle handle).bytes (new.handle 
 abbrev pub HasSentFront : State → HostView → HostView → ℕ → ℕ → Type 0
 HasSentFront s old new number handle = AppendsFront (old.handle handle).bytes (new.handle handle).bytes (sent_of s number)
 
--- some count of faults rose
-abbrev pub HandleRose : HostView → HostView → Type 0
-HandleRose old new = (k : ℕ) × Rose (old.handle k).faults (new.handle k).faults
+-- the count of faults of a handle up to this one rose
+abbrev pub HandleRose : ℕ → HostView → HostView → Type 0
+HandleRose most old new = (k : ℕ) × (k ≤ most) × Rose (old.handle k).faults (new.handle k).faults
+
+-- the last handle of these lines' files, where so many files were opened before
+abbrev pub last_handle : ℕ → List DeviceLine → ℕ
+last_handle opened devices = opened + length (flat_map openings_of devices)
 
 abbrev pub IsWriting : HostView → ℕ → ℕ → Type 0
 IsWriting host number handle = (host.handle handle).mode ≡ Writing
@@ -137,7 +141,8 @@ WritesFile (Some name) s number handle old new result = WritesAll handle old new
 pub record WritesFiles {E : Type 0} (s : State) (opened : ℕ) (devices : List DeviceLine) (old new : HostView) (result : Result (Unit {0}) E) : Type 0 where
   pub kept : KeptUpTo opened old new
   pub tried : new.tried ≡ old.tried
+  pub none_opened : new.opened ≡ old.opened
   pub whole : OnOk result (HoldsOfOutputs (HasSent s old new) opened devices)
   pub front : OnErr result (HoldsOfOutputs (HasSentFront s old new) opened devices)
-  pub cause : OnErr result (HandleRose old new)
+  pub cause : OnErr result (HandleRose (last_handle opened devices) old new)
   pub faults : OnOk result (SameFaults old new)

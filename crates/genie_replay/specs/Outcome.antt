@@ -111,9 +111,9 @@ abbrev pub OutcomeOf : List ℕ → Option (List ℕ) → HostView → HostView 
 OutcomeOf script None old new status = ⊤
 OutcomeOf script (Some text) old new status = IsOutcome script (boot_part script 0 (lines_of text)) old new status
 
--- the count of a handle or of the openings rose
+-- the count of a handle that is open rose, or that of the openings
 abbrev pub HasHostCause : HostView → HostView → Type 0
-HasHostCause old new = HandleRose old new ⊎ Rose old.refusals new.refusals
+HasHostCause old new = HandleRose new.opened old new ⊎ Rose old.refusals new.refusals
 
 abbrev pub FaultOf : HostView → HostView → Status → Type 0
 FaultOf old new status = status ≡ HostFault → HasHostCause old new
