@@ -157,6 +157,7 @@ short_read script ds old read new end o c =
         opened = omega (arith, count);
         refused = omega (arith, count, none);
       };
+      begun = λ e. cc;
       outputs = outputs_both (λ n h. h ≤ last_handle 1 ds) (IsFresh old end) (IsUnwritten old end) 1 ds (λ n h low f. fresh_unwritten old end n h (omega (arith, low, count)) f) (outputs_within 1 ds) (still_fresh script ds old read new end o c);
     }
 
@@ -176,6 +177,7 @@ short_opening script ds content e f x h old first read end none a b c unwritten 
         opened = omega (arith, count, none, some.opened);
         refused = omega (arith, count, none, some.refused);
       };
+      begun = λ e. cc;
       outputs = outputs_map (IsUnwritten read end) (IsUnwritten old end) 1 ds (λ n k later q. record {
         fresh = λ low. subst (λ (x : HandleState). IsFreshOutput x.bytes (end.handle k)) only.replies (q.fresh low);
         closed = λ high. q.closed high ∙ only.behind k later;
@@ -261,6 +263,7 @@ cut_any (Refused e) script old new none o = ran_nothing script old new o
 cut_any (Booted p before lines) script old new none o = inl (record {
   written = rw o.replies (keeps_same (old.handle 0).bytes);
   tried = record { front = (script, Inward) ∷ []; rest = flat_map openings_of p.devices; split = refl; tried = o.tried; opened = omega (arith, o.few); refused = omega (arith, none) };
+  begun = λ e. cc;
   outputs = outputs_all (IsUnwritten old new) 1 p.devices (λ n h later. unopened old new n h (o.behind h later) (omega (arith, o.few, later)));
 })
 

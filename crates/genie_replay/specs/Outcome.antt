@@ -1,5 +1,5 @@
 -- What each status says of the script, of the replies and of the devices' outputs.
-use Rattle.std.specs.Prelude.{◌≡◌, ◌⊎◌, ℕ, Bool, false, List, [], ◌∷◌, ◌++◌, codes, flat_map, map, Option, None, Some, ⊤, if◌then◌else◌, ◌&&◌, bytes_eq, nat_lt, length, not, ◌==◌}
+use Rattle.std.specs.Prelude.{◌≡◌, ◌≢◌, ◌⊎◌, ℕ, Bool, false, List, [], ◌∷◌, ◌++◌, codes, flat_map, map, Option, None, Some, ⊤, if◌then◌else◌, ◌&&◌, bytes_eq, nat_lt, length, not, ◌==◌}
 use Rattle.std.specs.Io.KnownBytes.{Appends, Keeps}
 use Rattle.genie_base.specs.Causes.{Rose}
 use Rattle.genie_base.specs.Configs.{Config}
@@ -88,10 +88,12 @@ pub record RanNothing (script : List ℕ) (old new : HostView) : Type 0 where
   pub written : WroteNothing old new
   pub tried : new.tried ≡ old.tried ++ (script, Inward) ∷ []
 
--- No reply was written, the first ones of the run's openings were tried, and nothing was written to an output.
+-- No reply was written, the first ones of the run's openings were tried, the script's at least, and nothing was written to an
+-- output.
 pub record CutShort (script : List ℕ) (devices : List DeviceLine) (old new : HostView) : Type 0 where
   pub written : WroteNothing old new
   pub tried : TriesFront (openings script devices) old new
+  pub begun : tried.front ≢ []
   pub outputs : HoldsOfOutputs (IsUnwritten old new) 1 devices
 
 -- a run that a failure cut short: before the reply to the boot part, or behind it
