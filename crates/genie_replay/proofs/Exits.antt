@@ -1,5 +1,5 @@
 -- How the loop over the lines is left.
-use Rattle.std.proofs.Common.{◌≡◌, ◌≢◌, ℕ, ◌+◌, ◌≤◌, List, [], ◌∷◌, ◌++◌, refl, ap, sym, ◌∙◌, append_assoc, append-nil}
+use Rattle.std.proofs.Common.{◌≡◌, ◌≢◌, ℕ, ◌+◌, ◌≤◌, List, [], ◌∷◌, ◌++◌, refl, ap, sym, ◌∙◌, append_assoc, append-nil, arith}
 use Rattle.std.specs.Prelude.{◌⊎◌, Option, Some, None, Err, IsSome}
 use Rattle.genie_base.specs.Causes.{Rose}
 use Rattle.genie_base.specs.declared.event.Event.{Event}
@@ -159,5 +159,5 @@ leaves_failed h start machine old u w at Left so which only later rose = record 
   later = later_more old u w (later_same old u so.faults) (later_only h u w only later);
   refusals = only.refusals ∙ so.faults.refusals;
   same = λ n. absurd (n refl);
-  cause = λ e. (h, rw (← so.faults.handles h) rose);
+  cause = λ e. let low : h ≤ 1 = grind (arith, which) in (h, low, rw (← so.faults.handles h) rose);
 }

@@ -11,9 +11,9 @@ use Rattle.genie_model.specs.State.{State}
 use Rattle.genie_script.specs.declared.line.DeviceLine.{DeviceLine}
 use Rattle.genie_replay.specs.declared.inputs.Unread.{Unread}
 use Rattle.genie_replay.specs.declared.inputs.Unread.TheVariants as unread
-use Rattle.genie_replay.specs.Files.{HoldsOfFile, HoldsOfInputs, IsReading, IsSameHandle, KeptUpTo, SameFaults, file_opening, openings_of}
+use Rattle.genie_replay.specs.Files.{HoldsOfFile, HoldsOfInputs, IsReading, IsSameHandle, KeptUpTo, OnlyReads, SameFaults, file_opening, last_handle, openings_of}
 use Rattle.genie_replay.specs.Inputs.{Counts, HasInputs, ReadsInput, ReadsInputs, SetsInput, SetsInputs, Tells}
-use Rattle.genie_replay.proofs.Filing.{inputs_map, only_faults, outputs_all, outputs_map, same_faults, same_trans}
+use Rattle.genie_replay.proofs.Filing.{inputs_map, line_within, lines_within, only_faults, outputs_all, outputs_map, rose_after, same_faults, same_trans}
 use Rattle.genie_replay.proofs.Reading.{consumes_more}
 
 -- a file so far
@@ -57,14 +57,19 @@ input_tried : (o : Option (List ℕ)) (n handle : ℕ) (machine after : Option S
 input_tried None n handle machine after old mid r i = rw i.0 refl
 input_tried (Some name) n handle machine after old mid r i = i.0.tried
 
+input_opened : (o : Option (List ℕ)) (n handle : ℕ) (machine after : Option State) (old mid : HostView) (r : Result (Unit {0}) Unread) → ReadsInput o n handle machine after old mid r → mid.opened ≡ old.opened
+input_opened None n handle machine after old mid r i = rw i.0 refl
+input_opened (Some name) n handle machine after old mid r i = i.0.opened
+
 input_faults : (o : Option (List ℕ)) (n handle : ℕ) (machine after : Option State) (old mid : HostView) (u : Unit {0}) → ReadsInput o n handle machine after old mid (Ok u) → SameFaults old mid
 input_faults None n handle machine after old mid u i = rw i.0 (same_faults old)
 input_faults (Some name) n handle machine after old mid u i = only_faults handle old mid i.0 i.1
 
-input_counts : (o : Option (List ℕ)) (n handle : ℕ) (machine after : Option State) (old mid : HostView) (e : Unread) → ReadsInput o n handle machine after old mid (Err e) → Counts old mid (Err e)
-input_counts None n handle machine after old mid e i = absurd i.2
-input_counts (Some name) n handle machine after old mid unread.Host i = (handle, i.1)
-input_counts (Some name) n handle machine after old mid unread.Memory i = only_faults handle old mid i.0 i.1
+input_counts : (o : Option (List ℕ)) (n handle most : ℕ) (machine after : Option State) (old mid : HostView) (e : Unread) → (o ≡ None) ⊎ (handle ≤ most) → ReadsInput o n handle machine after old mid (Err e) → Counts most old mid (Err e)
+input_counts None n handle most machine after old mid e which i = absurd i.2
+input_counts (Some name) n handle most machine after old mid unread.Host (inl none) i = absurd (cc)
+input_counts (Some name) n handle most machine after old mid unread.Host (inr low) i = (handle, low, i.1)
+input_counts (Some name) n handle most machine after old mid unread.Memory which i = only_faults handle old mid i.0 i.1
 
 input_set : (o : Option (List ℕ)) (n handle : ℕ) (s : State) (after : Option State) (old mid : HostView) (u : Unit {0}) → ReadsInput o n handle (Some s) after old mid (Ok u) → (m : State) × (after ≡ Some m) × SetsInput o n (old.handle handle).bytes s m
 input_set None n handle s after old mid u i = (s, i.1, refl)
@@ -100,6 +105,10 @@ one_file : (d : DeviceLine) (o : Option (List ℕ)) → d.input ≡ o → (opene
 one_file d None is opened = inl refl
 one_file d (Some name) is opened = inr (omega (arith, with_input_file d name is))
 
+input_within : (d : DeviceLine) (o : Option (List ℕ)) → d.input ≡ o → (opened : ℕ) (ds : List DeviceLine) → (o ≡ None) ⊎ (opened + 1 ≤ last_handle opened (d ∷ ds))
+input_within d None is opened ds = inl refl
+input_within d (Some name) is opened ds = inr (omega (arith, with_input_file d name is, line_within opened d ds))
+
 -- a line's input is read before the files of later lines
 pub reads_on : (d : DeviceLine) (opened count : ℕ) (all ds : List DeviceLine) (machine after : Option State) (old mid : HostView) (r : Result (Unit {0}) Unread)
     → all ≡ d ∷ ds → count ≡ length (openings_of d) → ReadsInput d.input d.number (opened + 1) machine after old mid r → HoldsOfInputs (IsReading old) opened all → HoldsOfInputs (IsReading mid) (opened + count) ds
@@ -115,13 +124,13 @@ before_same : (o : Option (List ℕ)) (n opened : ℕ) (machine after : Option S
 before_same o n opened machine after old mid r i k low = input_others o n (opened + 1) machine after old mid r i k (λ e. omega (arith, e, low))
 
 pub read_none : (opened : ℕ) (machine : Option State) (v : HostView) → ReadsInputs opened [] machine machine v v (Ok tt)
-read_none opened None v = record { kept = λ k low. refl; outputs = tt; tried = refl; counts = same_faults v; has = tt }
-read_none opened (Some s) v = record { kept = λ k low. refl; outputs = tt; tried = refl; counts = same_faults v; has = record { now = s; is = refl; sets = refl } }
+read_none opened None v = record { kept = λ k low. refl; outputs = tt; tried = refl; none_opened = refl; counts = same_faults v; has = tt }
+read_none opened (Some s) v = record { kept = λ k low. refl; outputs = tt; tried = refl; none_opened = refl; counts = same_faults v; has = record { now = s; is = refl; sets = refl } }
 
-more_counts : (old mid new : HostView) (r : Result (Unit {0}) Unread) → SameFaults old mid → Counts mid new r → Counts old new r
-more_counts old mid new (Ok u) a b = same_trans old mid new a b
-more_counts old mid new (Err unread.Memory) a b = same_trans old mid new a b
-more_counts old mid new (Err unread.Host) a b = (b.0, rw (← a.handles b.0) b.1)
+more_counts : (old mid new : HostView) (most all : ℕ) (r : Result (Unit {0}) Unread) → most ≤ all → SameFaults old mid → Counts most mid new r → Counts all old new r
+more_counts old mid new most all (Ok u) within a b = same_trans old mid new a b
+more_counts old mid new most all (Err unread.Memory) within a b = same_trans old mid new a b
+more_counts old mid new most all (Err unread.Host) within a b = rose_after old mid new most all within a b
 
 more_has : (d : DeviceLine) (opened : ℕ) (ds : List DeviceLine) (machine between after : Option State) (old mid new : HostView) (u : Unit {0}) (r : Result (Unit {0}) Unread)
     → ReadsInput d.input d.number (opened + 1) machine between old mid (Ok u) → ReadsInputs (opened + length (openings_of d)) ds between after mid new r → OnOk r (IfSome machine (λ s. HasInputs old opened (d ∷ ds) s after))
@@ -152,7 +161,8 @@ read_more opened count all ds d machine between after old mid new u r is counted
         outputs_map (IsSameHandle mid new) (IsSameHandle old new) (opened + length (openings_of d)) ds (λ n h later e. e ∙ later_same d d.input refl opened machine between old mid (Ok u) i h later) p.outputs,
       );
       tried = p.tried ∙ input_tried d.input d.number (opened + 1) machine between old mid (Ok u) i;
-      counts = more_counts old mid new r (input_faults d.input d.number (opened + 1) machine between old mid u i) p.counts;
+      none_opened = p.none_opened ∙ input_opened d.input d.number (opened + 1) machine between old mid (Ok u) i;
+      counts = more_counts old mid new (last_handle (opened + length (openings_of d)) ds) (last_handle opened (d ∷ ds)) r (lines_within opened d ds) (input_faults d.input d.number (opened + 1) machine between old mid u i) p.counts;
       has = more_has d opened ds machine between after old mid new u r i p;
     })
 
@@ -166,6 +176,11 @@ read_failed opened all ds d machine after old new e is i = rw is (record {
     outputs_all (IsSameHandle old new) (opened + length (openings_of d)) ds (λ n h later. later_same d d.input refl opened machine after old new (Err e) i h later),
   );
   tried = input_tried d.input d.number (opened + 1) machine after old new (Err e) i;
-  counts = input_counts d.input d.number (opened + 1) machine after old new e i;
+  none_opened = input_opened d.input d.number (opened + 1) machine after old new (Err e) i;
+  counts = input_counts d.input d.number (opened + 1) (last_handle opened (d ∷ ds)) machine after old new e (input_within d d.input refl opened ds) i;
   has = tt;
 })
+
+-- behind the script's opening
+pub only_reads : (ds : List DeviceLine) (machine after : Option State) (old mid : HostView) (r : Result (Unit {0}) Unread) → ReadsInputs 1 ds machine after old mid r → OnlyReads ds old mid
+only_reads ds machine after old mid r i = record { replies = i.kept 0 (omega arith); outputs = i.outputs; tried = i.tried; opened = i.none_opened }

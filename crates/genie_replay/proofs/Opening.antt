@@ -1,12 +1,12 @@
 -- From the openings and the boot part to the whole run.
-use Rattle.std.proofs.Common.{◌≡◌, ℕ, ◌+◌, length, List, [], ◌∷◌, ◌++◌, refl, ap, ◌∙◌, append_assoc, arith, subst, inl, inr}
-use Rattle.std.specs.Prelude.{◌⊎◌, Option, Some, None, Ok, flat_map}
+use Rattle.std.proofs.Common.{◌≡◌, ℕ, ◌+◌, ◌≤◌, length, List, [], ◌∷◌, ◌++◌, refl, ap, sym, ◌∙◌, append_assoc, append-nil, arith, subst, inl, inr}
+use Rattle.std.specs.Prelude.{◌⊎◌, Option, Some, None, Ok, Err, flat_map}
 use Rattle.std.specs.Io.KnownBytes.{Appends, Keeps, prepend_known}
 use Rattle.genie_base.specs.declared.semantics.Direction.TheVariants.{Inward}
 use Rattle.genie_host.specs.Host.{HostView, HandleState, OnlyHandle, Opens, Reading, empty_told}
 use Rattle.genie_model.specs.Flat.{sent_of}
 use Rattle.genie_model.specs.State.{State, boot}
-use Rattle.genie_script.specs.Judge.{Numbered, Part, Refused, Booted, boot_part, events_from}
+use Rattle.genie_script.specs.Judge.{Boot, Numbered, Part, Refused, Booted, boot_part, events_from}
 use Rattle.genie_script.specs.Texts.{lines_of}
 use Rattle.genie_script.specs.declared.judge.Ending.{Ending}
 use Rattle.genie_script.specs.declared.judge.Ending.TheVariants as ending
@@ -17,13 +17,15 @@ use Rattle.genie_replay.specs.declared.status.Status.{Status}
 use Rattle.genie_replay.specs.declared.status.Status.TheVariants as status
 use Rattle.genie_replay.specs.Booted.{Booted as Run, Cut, Runs, RunsAll, RunsBooted, RunsFrom, RunsInPart, Started}
 use Rattle.genie_replay.specs.Booting.{ReadsBoot}
-use Rattle.genie_replay.specs.Files.{HasSent, HasSentFront, HoldsOfFile, HoldsOfInputs, HoldsOfOutputs, IsFresh, IsFreshFor, IsFreshInput, IsFreshOutput, IsReading, IsSameHandle, IsWriting, KeptUpTo, OpensAll, openings_of}
+use Rattle.genie_replay.specs.Files.{HasSent, HasSentFront, HoldsOfInputs, HoldsOfOutputs, IsFresh, IsFreshFor, IsFreshInput, IsFreshOutput, IsReading, IsSameHandle, IsUnwritten, IsWriting, KeptBehind, KeptUpTo, OnlyReads, Opening, OpensAll, last_handle, openings_of}
 use Rattle.genie_replay.specs.Inputs.{HasInputs, IsBoot, ReadsInputs}
-use Rattle.genie_replay.specs.Outcome.{HasAll, HasFront, IsOutcome, OutcomeOf, Ran, RanInPart, RanNothing, openings}
+use Rattle.genie_replay.specs.Outcome.{CutOf, CutShort, HasAll, HasFront, IsOutcome, OutcomeOf, Ran, RanInPart, RanNothing, openings}
 use Rattle.genie_replay.specs.Statuses.{status_of}
 use Rattle.genie_replay.specs.Write.{AppendsFront}
-use Rattle.genie_replay.proofs.Filing.{inputs_map, outputs_map}
-use Rattle.genie_replay.proofs.Starting.{KeptInput, sets_boot}
+use Rattle.genie_replay.specs.Lines.{IsPending}
+use Rattle.genie_replay.proofs.Filing.{fresh_unwritten, inputs_map, outputs_all, outputs_both, outputs_map, outputs_within, unopened}
+use Rattle.genie_replay.proofs.Gathering.{only_reads}
+use Rattle.genie_replay.proofs.Starting.{KeptInput, sets_boot, sets_some}
 
 keeps_same : (k : Option (List ℕ)) → Keeps k k
 keeps_same None = tt
@@ -38,14 +40,27 @@ kept_appends (Some u) (Some v) (Some w) bytes k a = a ∙ ap (λ l. l ++ bytes) 
 kept_front : (u v w : Option (List ℕ)) (bytes : List ℕ) → Keeps u v → AppendsFront v w bytes → AppendsFront u w bytes
 kept_front u v w bytes k a = (a.0, a.1, a.2, kept_appends u v w a.0 k a.3)
 
--- two facts of each output make a third
-file_both : (P Q R : ℕ → ℕ → Type 0) (o : Option (List ℕ)) (n h : ℕ) → ((n h : ℕ) → P n h → Q n h → R n h) → HoldsOfFile P o n h → HoldsOfFile Q o n h → HoldsOfFile R o n h
-file_both P Q R None n h f p q = tt
-file_both P Q R (Some name) n h f p q = f n h p q
+-- the script was opened at most, and nothing else changed
+pub record OnlyScript (script : List ℕ) (old new : HostView) : Type 0 where
+  pub replies : new.handle 0 ≡ old.handle 0
+  pub tried : new.tried ≡ old.tried ++ (script, Inward) ∷ []
+  pub few : new.opened ≤ 1
+  pub behind : KeptBehind 1 old new
 
-outputs_both : (P Q R : ℕ → ℕ → Type 0) (opened : ℕ) (ds : List DeviceLine) → ((n h : ℕ) → P n h → Q n h → R n h) → HoldsOfOutputs P opened ds → HoldsOfOutputs Q opened ds → HoldsOfOutputs R opened ds
-outputs_both P Q R opened [] f p q = tt
-outputs_both P Q R opened (d ∷ ds) f p q = (file_both P Q R d.output d.number _ f p.0 q.0, outputs_both P Q R (opened + length (openings_of d)) ds f p.1 q.1)
+pub script_refused : {E : Type 0} (script : List ℕ) (content : Option (List ℕ)) (e x : E) (old new : HostView) → old.opened ≡ 0 → Opens script Inward Reading content e old new (Err x) → OnlyScript script old new
+script_refused script content e x old new none a =
+    let count : new.opened ≡ old.opened = a.refused.0 in
+    record { replies = a.others 0 (λ s. omega (arith, s)); tried = a.tried; few = omega arith; behind = λ k high. a.others k (λ s. omega (arith, s, high, none)) }
+
+pub script_read : {E : Type 0} (script : List ℕ) (content : Option (List ℕ)) (e : E) (h : ℕ) (old first mid : HostView) → old.opened ≡ 0 → Opens script Inward Reading content e old first (Ok h) → OnlyHandle 1 first mid → OnlyScript script old mid
+script_read script content e h old first mid none a b =
+    let count : mid.opened ≡ 1 = b.opened ∙ a.opened ∙ ap (λ n. n + 1) none in
+    record {
+      replies = b.others 0 (λ x. cc) ∙ a.others 0 (λ x. omega (arith, x));
+      tried = b.tried ∙ a.tried;
+      few = omega arith;
+      behind = λ k high. b.others k (λ s. omega (arith, s, high)) ∙ a.others k (λ s. omega (arith, s, high, none));
+    }
 
 -- the files are open, and nothing was written
 pub record Opened (script : List ℕ) (ds : List DeviceLine) (old read new : HostView) : Type 0 where
@@ -54,18 +69,22 @@ pub record Opened (script : List ℕ) (ds : List DeviceLine) (old read new : Hos
   pub outputs : HoldsOfOutputs (IsFresh old new) 1 ds
   pub inputs : HoldsOfInputs (IsFreshFor old new) 1 ds
   pub tried : new.tried ≡ old.tried ++ openings script ds
+  pub none : old.opened ≡ 0
+  pub count : new.opened ≡ last_handle 1 ds
 
 pub opened : {E : Type 0} (script : List ℕ) (ds : List DeviceLine) (content : Option (List ℕ)) (e : E) (h : ℕ) (old first read new : HostView) → old.opened ≡ 0
     → Opens script Inward Reading content e old first (Ok h) → OnlyHandle 1 first read → OpensAll (flat_map openings_of ds) read new → KeptUpTo read.opened read new → HoldsOfOutputs (IsFresh read new) read.opened ds → HoldsOfInputs (IsFreshFor read new) read.opened ds → Opened script ds old read new
 opened script ds content e h old first read new none a b d kept fresh inputs =
     let count : read.opened ≡ 1 = b.opened ∙ a.opened ∙ ap (λ n. n + 1) none in
-    let replies : read.handle 0 ≡ old.handle 0 = b.others 0 (λ x. cc) ∙ a.others 0 (λ x. omega (arith, x)) in
+    let replies : read.handle 0 ≡ old.handle 0 = (script_read script content e h old first read none a b).replies in
     record {
       replies = kept 0 (omega arith) ∙ replies;
       input = kept 1 (omega (arith, count));
       outputs = outputs_map (IsFresh read new) (IsFresh old new) 1 ds (λ n k later q. subst (λ (x : HandleState). IsFreshOutput x.bytes (new.handle k)) replies q) (rw count at fresh);
       inputs = inputs_map (IsFreshFor read new) (IsFreshFor old new) 1 ds (λ name k later q. subst (λ (n : List ℕ → Option (List ℕ)). IsFreshInput (n name) (new.handle k)) (b.names ∙ a.names) q) (rw count at inputs);
       tried = d.tried ∙ ap (λ t. t ++ flat_map openings_of ds) (b.tried ∙ a.tried) ∙ append_assoc old.tried _ _;
+      none = none;
+      count = d.opened ∙ ap (λ n. n + length (flat_map openings_of ds)) count;
     }
 
 pub opened_writing : (script : List ℕ) (ds : List DeviceLine) (old read new : HostView) → Opened script ds old read new → HoldsOfOutputs (IsWriting new) 1 ds
@@ -75,11 +94,17 @@ pub opened_reading : (script : List ℕ) (ds : List DeviceLine) (old read new : 
 opened_reading script ds old read new o = inputs_map (IsFreshFor old new) (IsReading new) 1 ds (λ name h later f. f.mode) o.inputs
 
 -- the outputs are still fresh where the inputs were read
-still_fresh : (script : List ℕ) (p : Part) (old read new mid : HostView) (start : State) → Opened script p.devices old read new → Started p new mid start → HoldsOfOutputs (IsFresh old mid) 1 p.devices
-still_fresh script p old read new mid start o b = outputs_both (IsFresh old new) (IsSameHandle new mid) (IsFresh old mid) 1 p.devices (λ n h f same. rw same f) o.outputs b.outputs
+still_fresh : (script : List ℕ) (ds : List DeviceLine) (old read new mid : HostView) → Opened script ds old read new → OnlyReads ds new mid → HoldsOfOutputs (IsFresh old mid) 1 ds
+still_fresh script ds old read new mid o b = outputs_both (IsFresh old new) (IsSameHandle new mid) (IsFresh old mid) 1 ds (λ n h f same. rw same f) o.outputs b.outputs
 
 begins : (script : List ℕ) (p : Part) (old read new mid : HostView) (start : State) → Opened script p.devices old read new → Started p new mid start → IsBoot old.names p.config p.devices start
-begins script p old read new mid start o b told = sets_boot old.names p.config (λ _. []) new 1 p.devices start told (inputs_map (IsFreshFor old new) (KeptInput old.names new) 1 p.devices (λ name h later f. f.whole) o.inputs) b.sets
+begins script p old read new mid start o b =
+    let some = sets_some p.config (λ _. []) new 1 p.devices start b.sets in
+    record {
+      inputs = some.0;
+      boots = some.1;
+      told = λ told. sets_boot old.names p.config (λ _. []) new 1 p.devices start told (inputs_map (IsFreshFor old new) (KeptInput old.names new) 1 p.devices (λ name h later f. f.whole) o.inputs) b.sets;
+    }
 
 ran : (script : List ℕ) (p : Part) (events : List Numbered) (old read new mid end : HostView) (start : State) → Opened script p.devices old read new → Started p new mid start → RunsAll start p.devices events mid end → Ran script p.config p.devices events old end
 ran script p events old read new mid end start o b r = record {
@@ -88,9 +113,9 @@ ran script p events old read new mid end start o b r = record {
   replies = r.replies;
   last = r.last;
   follows = r.follows;
-  written = rw (b.replies ∙ o.replies) at r.written;
-  sent = outputs_both (IsFresh old mid) (HasSent r.last mid end) (HasAll r.last old end) 1 p.devices (λ n h f s. kept_appends (empty_told (old.handle 0).bytes) (mid.handle h).bytes (end.handle h).bytes (sent_of r.last n) f.empty s) (still_fresh script p old read new mid start o b) r.sent;
-  tried = r.tried ∙ b.tried ∙ o.tried;
+  written = rw (b.still.replies ∙ o.replies) at r.written;
+  sent = outputs_both (IsFresh old mid) (HasSent r.last mid end) (HasAll r.last old end) 1 p.devices (λ n h f s. kept_appends (empty_told (old.handle 0).bytes) (mid.handle h).bytes (end.handle h).bytes (sent_of r.last n) f.empty s) (still_fresh script p.devices old read new mid o b.still) r.sent;
+  tried = r.tried ∙ b.still.tried ∙ o.tried;
 }
 
 ran_in_part : (script : List ℕ) (p : Part) (events : List Numbered) (old read new mid end : HostView) (start : State) → Opened script p.devices old read new → Started p new mid start → RunsInPart start p.devices events mid end → RanInPart script p.config p.devices events old end
@@ -103,9 +128,9 @@ ran_in_part script p events old read new mid end start o b r = record {
   replies = r.replies;
   last = r.last;
   follows = r.follows;
-  written = rw (b.replies ∙ o.replies) at r.written;
-  sent = outputs_both (IsFresh old mid) (HasSentFront r.last mid end) (HasFront r.last old end) 1 p.devices (λ n h f s. kept_front (empty_told (old.handle 0).bytes) (mid.handle h).bytes (end.handle h).bytes (sent_of r.last n) f.empty s) (still_fresh script p old read new mid start o b) r.sent;
-  tried = r.tried ∙ b.tried ∙ o.tried;
+  written = rw (b.still.replies ∙ o.replies) at r.written;
+  sent = outputs_both (IsFresh old mid) (HasSentFront r.last mid end) (HasFront r.last old end) 1 p.devices (λ n h f s. kept_front (empty_told (old.handle 0).bytes) (mid.handle h).bytes (end.handle h).bytes (sent_of r.last n) f.empty s) (still_fresh script p.devices old read new mid o b.still) r.sent;
+  tried = r.tried ∙ b.still.tried ∙ o.tried;
 }
 
 started_outcome : (st : Status) (script : List ℕ) (p : Part) (before : ℕ) (lines : List (List ℕ)) (old read new mid end : HostView) (start : State) → Opened script p.devices old read new → Started p new mid start → Runs start p.devices before lines mid end st → IsOutcome script (Booted p before lines) old end st
@@ -117,17 +142,59 @@ started_outcome (status.BadLine l) script p before lines old read new mid end st
 started_outcome status.TooLong script p before lines old read new mid end start o b r = (r.0, ran script p (events_from before lines) old read new mid end start o b r.1)
 started_outcome (status.BadBoot l) script p before lines old read new mid end start o b r = (r.0, ran script p (events_from before lines) old read new mid end start o b r.1)
 
+-- cut short behind the openings, or among them
+short_read : (script : List ℕ) (ds : List DeviceLine) (old read new end : HostView) → Opened script ds old read new → OnlyReads ds new end → CutShort script ds old end
+short_read script ds old read new end o c =
+    let none : old.opened ≡ 0 = o.none in
+    let count : end.opened ≡ last_handle 1 ds = c.opened ∙ o.count in
+    record {
+      written = rw (c.replies, o.replies) (keeps_same (old.handle 0).bytes);
+      tried = record {
+        front = openings script ds;
+        rest = [];
+        split = sym (append-nil (openings script ds));
+        tried = c.tried ∙ o.tried;
+        opened = omega (arith, count);
+        refused = omega (arith, count, none);
+      };
+      begun = λ e. cc;
+      outputs = outputs_both (λ n h. h ≤ last_handle 1 ds) (IsFresh old end) (IsUnwritten old end) 1 ds (λ n h low f. fresh_unwritten old end n h (omega (arith, low, count)) f) (outputs_within 1 ds) (still_fresh script ds old read new end o c);
+    }
+
+pub short_opening : {E F T : Type 0} (script : List ℕ) (ds : List DeviceLine) (content : Option (List ℕ)) (e : E) (f x : F) (h : ℕ) (old first read end : HostView) → old.opened ≡ 0
+    → Opens script Inward Reading content e old first (Ok h) → OnlyHandle 1 first read → Opening {T = T} f (flat_map openings_of ds) read end (Err x) → HoldsOfOutputs (IsUnwritten read end) read.opened ds → CutShort script ds old end
+short_opening script ds content e f x h old first read end none a b c unwritten =
+    let only = script_read script content e h old first read none a b in
+    let count : read.opened ≡ 1 = b.opened ∙ a.opened ∙ ap (λ n. n + 1) none in
+    let some = c.tried in
+    record {
+      written = rw (c.kept 0 (omega arith), only.replies) (keeps_same (old.handle 0).bytes);
+      tried = record {
+        front = (script, Inward) ∷ some.front;
+        rest = some.rest;
+        split = ap (λ l. (script, Inward) ∷ l) some.split;
+        tried = some.tried ∙ ap (λ t. t ++ some.front) only.tried ∙ append_assoc old.tried _ _;
+        opened = omega (arith, count, none, some.opened);
+        refused = omega (arith, count, none, some.refused);
+      };
+      begun = λ e. cc;
+      outputs = outputs_map (IsUnwritten read end) (IsUnwritten old end) 1 ds (λ n k later q. record {
+        fresh = λ low. subst (λ (x : HandleState). IsFreshOutput x.bytes (end.handle k)) only.replies (q.fresh low);
+        closed = λ high. q.closed high ∙ only.behind k later;
+      }) (subst (λ n. HoldsOfOutputs (IsUnwritten read end) n ds) count unwritten);
+    }
+
 -- cut short before the reply to the boot part
-cut_outcome : (st : Status) (script : List ℕ) (p : Part) (before : ℕ) (lines : List (List ℕ)) (old read new end : HostView) → Opened script p.devices old read new → Cut new end st → IsOutcome script (Booted p before lines) old end st
-cut_outcome status.HostFault script p before lines old read new end o c = inl (rw (c, o.replies) (keeps_same (old.handle 0).bytes))
-cut_outcome status.NoMemory script p before lines old read new end o c = inl (rw (c, o.replies) (keeps_same (old.handle 0).bytes))
+cut_outcome : (st : Status) (script : List ℕ) (p : Part) (before : ℕ) (lines : List (List ℕ)) (old read new end : HostView) → Opened script p.devices old read new → Cut p.devices new end st → IsOutcome script (Booted p before lines) old end st
+cut_outcome status.HostFault script p before lines old read new end o c = inl (short_read script p.devices old read new end o c)
+cut_outcome status.NoMemory script p before lines old read new end o c = inl (short_read script p.devices old read new end o c)
 cut_outcome status.Done script p before lines old read new end o c = absurd c
 cut_outcome status.Usage script p before lines old read new end o c = absurd c
 cut_outcome (status.BadLine l) script p before lines old read new end o c = absurd c
 cut_outcome status.TooLong script p before lines old read new end o c = absurd c
 cut_outcome (status.BadBoot l) script p before lines old read new end o c = absurd c
 
-booted_outcome : (st : Status) (script : List ℕ) (p : Part) (before : ℕ) (lines : List (List ℕ)) (old read new end : HostView) → Opened script p.devices old read new → Cut new end st ⊎ Run p before lines new end st → IsOutcome script (Booted p before lines) old end st
+booted_outcome : (st : Status) (script : List ℕ) (p : Part) (before : ℕ) (lines : List (List ℕ)) (old read new end : HostView) → Opened script p.devices old read new → Cut p.devices new end st ⊎ Run p before lines new end st → IsOutcome script (Booted p before lines) old end st
 booted_outcome st script p before lines old read new end o (inl c) = cut_outcome st script p before lines old read new end o c
 booted_outcome st script p before lines old read new end o (inr r) = started_outcome st script p before lines old read new r.mid end r.start o r.started r.runs
 
@@ -146,29 +213,63 @@ booted_runs st p flat after ds (Some text) step line before old mid new u is sam
     let h = has_inputs p flat after ds old mid u is same r in
     let first : RunsFrom (Some h.now) ds (Some text) step line before mid new st = rw h.is at runs in
     let now : RunsFrom (Some h.now) p.devices (Some text) step line before mid new st = subst (λ l. RunsFrom (Some h.now) l (Some text) step line before mid new st) same first in
-    let outputs : HoldsOfOutputs (IsSameHandle old mid) 1 p.devices = subst (λ l. HoldsOfOutputs (IsSameHandle old mid) 1 l) same r.outputs in
+    let still : OnlyReads p.devices old mid = subst (λ l. OnlyReads l old mid) same (only_reads ds flat after old mid (Ok u) r) in
     inr (record {
       start = h.now;
       mid = mid;
-      started = record { sets = h.sets; replies = r.kept 0 (omega arith); outputs = outputs; tried = r.tried };
+      started = record { sets = h.sets; still = still };
       runs = now lines pending;
     })
 
--- the whole run, by what the host told of the script
-pub told_outcome : (E : Type 0) (st : Status) (script : List ℕ) (content told rest : Option (List ℕ)) (line : List ℕ) (p : Part) (step : LineStep) (before : ℕ) (old mid new end : HostView)
-    → Keeps content told → ReadsBoot {E = E} script (prepend_known [] told) rest line (Ok (read.Whole p step before)) → Opened script p.devices old mid new → RunsBooted p rest step line before new end st → OutcomeOf script content old end st
-told_outcome E st script None told rest line p step before old mid new end k r o b = tt
-told_outcome E st script (Some text) None rest line p step before old mid new end k r o b = absurd k
-told_outcome E st script (Some text) (Some bytes) None line p step before old mid new end k r o b = absurd r
-told_outcome E st script (Some text) (Some bytes) (Some rest) line p step before old mid new end k r o b =
-    let whole : IsOutcome script (boot_part script 0 (lines_of bytes)) old end st = rw r.is (booted_outcome st script p before r.lines old mid new end o (b r.lines r.pending)) in
+-- or the boot had no memory
+read_nothing : (ds : List DeviceLine) (v : HostView) → OnlyReads ds v v
+read_nothing ds v = record { replies = refl; outputs = outputs_all (IsSameHandle v v) 1 ds (λ n h later. refl); tried = refl; opened = refl }
+
+pub unbooted_runs : (p : Part) (text : Option (List ℕ)) (step : LineStep) (line : List ℕ) (before : ℕ) (v : HostView) → RunsBooted p text step line before v v status.NoMemory
+unbooted_runs p None step line before v = tt
+unbooted_runs p (Some text) step line before v = λ lines pending. inl (read_nothing p.devices v)
+
+-- the whole run, by what the host told of the script: its boot part is whole
+whole_outcome : (E : Type 0) (st : Status) (script : List ℕ) (content told rest : Option (List ℕ)) (line : List ℕ) (p : Part) (step : LineStep) (before : ℕ) (old end : HostView)
+    → Keeps content told → ReadsBoot {E = E} script (prepend_known [] told) rest line (Ok (read.Whole p step before))
+    → ((text : List ℕ) (lines : List (List ℕ)) → rest ≡ Some text → IsPending lines step line text → IsOutcome script (Booted p before lines) old end st) → OutcomeOf script content old end st
+whole_outcome E st script None told rest line p step before old end k r f = tt
+whole_outcome E st script (Some text) None rest line p step before old end k r f = absurd k
+whole_outcome E st script (Some text) (Some bytes) None line p step before old end k r f = absurd r
+whole_outcome E st script (Some text) (Some bytes) (Some rest) line p step before old end k r f =
+    let whole : IsOutcome script (boot_part script 0 (lines_of bytes)) old end st = rw r.is (f rest r.lines refl r.pending) in
     subst (λ t. IsOutcome script (boot_part script 0 (lines_of t)) old end st) k whole
 
--- the script was opened, and nothing else
-nothing_ran : {E : Type 0} (script : List ℕ) (content : Option (List ℕ)) (e : E) (h : ℕ) (old first mid : HostView) → old.opened ≡ 0 → Opens script Inward Reading content e old first (Ok h) → OnlyHandle 1 first mid → RanNothing script old mid
-nothing_ran script content e h old first mid none a b =
-    let replies : mid.handle 0 ≡ old.handle 0 = b.others 0 (λ x. cc) ∙ a.others 0 (λ x. omega (arith, x)) in
-    record { written = rw replies (keeps_same (old.handle 0).bytes); tried = b.tried ∙ a.tried }
+pub told_outcome : (E : Type 0) (st : Status) (script : List ℕ) (content told rest : Option (List ℕ)) (line : List ℕ) (p : Part) (step : LineStep) (before : ℕ) (old mid new end : HostView)
+    → Keeps content told → ReadsBoot {E = E} script (prepend_known [] told) rest line (Ok (read.Whole p step before)) → Opened script p.devices old mid new → RunsBooted p rest step line before new end st → OutcomeOf script content old end st
+told_outcome E st script content told rest line p step before old mid new end k r o b = whole_outcome E st script content told rest line p step before old end k r (λ text lines is pending.
+    let runs : RunsBooted p (Some text) step line before new end st = rw is at b in
+    booted_outcome st script p before lines old mid new end o (runs lines pending))
+
+-- its files couldn't be opened
+pub short_outcome : (E : Type 0) (script : List ℕ) (content told rest : Option (List ℕ)) (line : List ℕ) (p : Part) (step : LineStep) (before : ℕ) (old end : HostView)
+    → Keeps content told → ReadsBoot {E = E} script (prepend_known [] told) rest line (Ok (read.Whole p step before)) → CutShort script p.devices old end → OutcomeOf script content old end status.HostFault × OutcomeOf script content old end status.NoMemory
+short_outcome E script content told rest line p step before old end k r c = (
+  whole_outcome E status.HostFault script content told rest line p step before old end k r (λ text lines is pending. inl c),
+  whole_outcome E status.NoMemory script content told rest line p step before old end k r (λ text lines is pending. inl c),
+)
+
+-- nothing but the script was opened: its boot part ends it, or a failure cut the run short
+ran_nothing : (script : List ℕ) (old new : HostView) → OnlyScript script old new → RanNothing script old new
+ran_nothing script old new o = record { written = rw o.replies (keeps_same (old.handle 0).bytes); tried = o.tried }
+
+cut_any : (b : Boot) (script : List ℕ) (old new : HostView) → old.opened ≡ 0 → OnlyScript script old new → CutOf script b old new
+cut_any (Refused e) script old new none o = ran_nothing script old new o
+cut_any (Booted p before lines) script old new none o = inl (record {
+  written = rw o.replies (keeps_same (old.handle 0).bytes);
+  tried = record { front = (script, Inward) ∷ []; rest = flat_map openings_of p.devices; split = refl; tried = o.tried; opened = omega (arith, o.few); refused = omega (arith, none) };
+  begun = λ e. cc;
+  outputs = outputs_all (IsUnwritten old new) 1 p.devices (λ n h later. unopened old new n h (o.behind h later) (omega (arith, o.few, later)));
+})
+
+pub script_outcome : (content : Option (List ℕ)) (script : List ℕ) (old new : HostView) → old.opened ≡ 0 → OnlyScript script old new → OutcomeOf script content old new status.HostFault × OutcomeOf script content old new status.NoMemory
+script_outcome None script old new none o = (tt, tt)
+script_outcome (Some text) script old new none o = let cut = cut_any (boot_part script 0 (lines_of text)) script old new none o in (cut, cut)
 
 refused : (e : Ending) (script : List ℕ) (old mid : HostView) → RanNothing script old mid → IsOutcome script (Refused e) old mid (status_of e)
 refused ending.End script old mid n = (refl, n)
@@ -182,5 +283,6 @@ refused_outcome E e script None told rest line f h old first mid none a b k r = 
 refused_outcome E e script (Some text) None rest line f h old first mid none a b k r = absurd k
 refused_outcome E e script (Some text) (Some bytes) None line f h old first mid none a b k r = absurd r
 refused_outcome E e script (Some text) (Some bytes) (Some rest) line f h old first mid none a b k r =
-    let whole : IsOutcome script (boot_part script 0 (lines_of bytes)) old mid (status_of e) = rw r (refused e script old mid (nothing_ran script (Some text) f h old first mid none a b)) in
+    let only = script_read script (Some text) f h old first mid none a b in
+    let whole : IsOutcome script (boot_part script 0 (lines_of bytes)) old mid (status_of e) = rw r (refused e script old mid (ran_nothing script old mid only)) in
     subst (λ t. IsOutcome script (boot_part script 0 (lines_of t)) old mid (status_of e)) k whole

@@ -175,16 +175,16 @@ okay_cut ds None step line before (Some start) old mid e some w = tt
 okay_cut ds (Some text) step line before (Some start) old mid e some w = λ lines pending. okay_runs start ds before lines old mid e w
 
 -- the counts of faults of a whole run
-pub failed_run : (E : Type 0) (st : Status) (old mid after new : HostView) (u : Unit {0}) → WritesAll {E = E} 0 old mid (Ok u) okay → Leaves st mid after → SameFaults after new → st ≡ status.HostFault → HandleRose old new
-failed_run E st old mid after new u w l f is =
+pub failed_run : (E : Type 0) (st : Status) (most : ℕ) (old mid after new : HostView) (u : Unit {0}) → 1 ≤ most → WritesAll {E = E} 0 old mid (Ok u) okay → Leaves st mid after → SameFaults after new → st ≡ status.HostFault → HandleRose most old new
+failed_run E st most old mid after new u within w l f is =
     let rose = l.cause is in
     let first = only_faults 0 old mid w.only w.cause.kept in
-    (rose.0, rw (← first.handles rose.0, f.handles rose.0) rose.1)
+    (rose.0, omega (arith, within, rose.1), rw (← first.handles rose.0, f.handles rose.0) rose.2)
 
 rose_later : (before start now : ℕ) → before ≤ start → Rose start now → Rose before now
 rose_later before start now low rose = omega (arith, low, rose)
 
-pub failed_file : (E : Type 0) (st : Status) (old mid after new : HostView) (u : Unit {0}) → WritesAll {E = E} 0 old mid (Ok u) okay → Leaves st mid after → HandleRose after new → HandleRose old new
-failed_file E st old mid after new u w l rose =
+pub failed_file : (E : Type 0) (st : Status) (most : ℕ) (old mid after new : HostView) (u : Unit {0}) → WritesAll {E = E} 0 old mid (Ok u) okay → Leaves st mid after → HandleRose most after new → HandleRose most old new
+failed_file E st most old mid after new u w l rose =
     let first = only_faults 0 old mid w.only w.cause.kept in
-    (rose.0, rose_later (old.handle rose.0).faults (after.handle rose.0).faults (new.handle rose.0).faults (later_more old mid after (later_same old mid first) l.later rose.0) rose.1)
+    (rose.0, rose.1, rose_later (old.handle rose.0).faults (after.handle rose.0).faults (new.handle rose.0).faults (later_more old mid after (later_same old mid first) l.later rose.0) rose.2)

@@ -71,6 +71,17 @@ sets_boot names c inputs host opened (d ∷ ds) t told kept p =
     let first : p.0 ≡ boot c (with_file names inputs d.number d.input) = set_boot names c inputs host (opened + 1) d.number d.input p.0 told.0 kept.0 p.1 in
     sets_boot names c (with_file names inputs d.number d.input) host (opened + length (openings_of d)) ds t told.1 kept.1 (subst (λ s. SetsInputs host (opened + length (openings_of d)) ds s t) first p.2)
 
+-- whatever the files have, the state is a boot with some inputs
+set_some : (c : Config) (inputs : ℕ → List ℕ) (number : ℕ) (o told : Option (List ℕ)) (t : State) → SetsInput o number told (boot c inputs) t → (f : ℕ → List ℕ) × (t ≡ boot c f)
+set_some c inputs number None told t p = (inputs, p)
+set_some c inputs number (Some name) told t p = (put_at inputs number p.bytes, some_same t (with_input (boot c inputs) number p.bytes) p.is ∙ input_boot c inputs number p.bytes)
+
+pub sets_some : (c : Config) (inputs : ℕ → List ℕ) (host : HostView) (opened : ℕ) (ds : List DeviceLine) (t : State) → SetsInputs host opened ds (boot c inputs) t → (f : ℕ → List ℕ) × (t ≡ boot c f)
+sets_some c inputs host opened [] t p = (inputs, p)
+sets_some c inputs host opened (d ∷ ds) t p =
+    let first = set_some c inputs d.number d.input (host.handle (opened + 1)).bytes p.0 p.1 in
+    sets_some c first.0 host (opened + length (openings_of d)) ds t (subst (λ s. SetsInputs host (opened + length (openings_of d)) ds s t) first.1 p.2)
+
 set_next : (o : Option (List ℕ)) (number : ℕ) (told : Option (List ℕ)) (s t : State) → SetsInput o number told s t → t.next ≡ s.next
 set_next None number told s t p = ap (λ (x : State). x.next) p
 set_next (Some name) number told s t p = ap (λ (x : State). x.next) (some_same t (with_input s number p.bytes) p.is)

@@ -41,11 +41,11 @@ texts_more [] r = append-nil (reply_text r)
 texts_more (x ∷ rs) r = ap (λ l. reply_text x ++ l) (texts_more rs r) ∙ sym (append_assoc (reply_text x) (texts rs) (reply_text r))
 
 only_none : (v : HostView) → OnlyRun v v
-only_none v = record { others = λ k z o. refl; tried = refl }
+only_none v = record { others = λ k z o. refl; tried = refl; opened = refl }
 
 pub only_more : (h : ℕ) (u v w : HostView) → (h ≡ 0) ⊎ (h ≡ 1) → OnlyRun u v → OnlyHandle h v w → OnlyRun u w
-only_more h u v w (inl z) a b = record { others = λ k nz no. b.others k (λ e. nz (e ∙ z)) ∙ a.others k nz no; tried = b.tried ∙ a.tried }
-only_more h u v w (inr o) a b = record { others = λ k nz no. b.others k (λ e. no (e ∙ o)) ∙ a.others k nz no; tried = b.tried ∙ a.tried }
+only_more h u v w (inl z) a b = record { others = λ k nz no. b.others k (λ e. nz (e ∙ z)) ∙ a.others k nz no; tried = b.tried ∙ a.tried; opened = b.opened ∙ a.opened }
+only_more h u v w (inr o) a b = record { others = λ k nz no. b.others k (λ e. no (e ∙ o)) ∙ a.others k nz no; tried = b.tried ∙ a.tried; opened = b.opened ∙ a.opened }
 
 pub later_same : (u v : HostView) → SameFaults u v → LaterFaults u v
 later_same u v s = λ k. let e = s.handles k in omega (arith, e)

@@ -10,7 +10,7 @@ use Rattle.genie_script.specs.declared.line.DeviceLine.{DeviceLine}
 use Rattle.genie_replay.specs.declared.script.LineStep.{LineStep}
 use Rattle.genie_replay.specs.declared.status.Status.{Status}
 use Rattle.genie_replay.specs.declared.status.Status.TheVariants.{HostFault, NoMemory}
-use Rattle.genie_replay.specs.Files.{HasSent, HasSentFront, HoldsOfOutputs, IsSameHandle}
+use Rattle.genie_replay.specs.Files.{HasSent, HasSentFront, HoldsOfOutputs, OnlyReads}
 use Rattle.genie_replay.specs.Inputs.{SetsInputs}
 use Rattle.genie_replay.specs.Lines.{IsPending}
 use Rattle.genie_replay.specs.Outcome.{events_of, okay, texts}
@@ -52,17 +52,15 @@ RunsFrom None devices text step line before old new status = ⊥
 RunsFrom (Some start) devices text step line before old new status = RunsOf start devices text step line before old new status
 
 -- a run that was cut short before the reply to the boot part
-abbrev pub Cut : HostView → HostView → Status → Type 0
-Cut old new HostFault = new.handle 0 ≡ old.handle 0
-Cut old new NoMemory = new.handle 0 ≡ old.handle 0
-Cut old new status = ⊥
+abbrev pub Cut : List DeviceLine → HostView → HostView → Status → Type 0
+Cut devices old new HostFault = OnlyReads devices old new
+Cut devices old new NoMemory = OnlyReads devices old new
+Cut devices old new status = ⊥
 
 -- the devices have their inputs, and nothing was written
 pub record Started (p : Part) (old mid : HostView) (start : State) : Type 0 where
   pub sets : SetsInputs old 1 p.devices (boot p.config (λ _. [])) start
-  pub replies : mid.handle 0 ≡ old.handle 0
-  pub outputs : HoldsOfOutputs (IsSameHandle old mid) 1 p.devices
-  pub tried : mid.tried ≡ old.tried
+  pub still : OnlyReads p.devices old mid
 
 -- the run behind that
 pub record Booted (p : Part) (before : ℕ) (lines : List (List ℕ)) (old new : HostView) (status : Status) : Type 0 where
@@ -73,4 +71,4 @@ pub record Booted (p : Part) (before : ℕ) (lines : List (List ℕ)) (old new :
 
 abbrev pub RunsBooted : Part → Option (List ℕ) → LineStep → List ℕ → ℕ → HostView → HostView → Status → Type 0
 RunsBooted p None step line before old new status = ⊤
-RunsBooted p (Some text) step line before old new status = (lines : List (List ℕ)) → IsPending lines step line text → Cut old new status ⊎ Booted p before lines old new status
+RunsBooted p (Some text) step line before old new status = (lines : List (List ℕ)) → IsPending lines step line text → Cut p.devices old new status ⊎ Booted p before lines old new status

@@ -1,5 +1,5 @@
 -- The files of the devices: how they are opened, and which handle each output has.
-use Rattle.std.specs.Prelude.{◌≡◌, ℕ, ◌+◌, ◌≤◌, List, [], ◌∷◌, ◌++◌, length, Option, None, Some, Result, OnOk, OnErr, IsErrOf, ⊤}
+use Rattle.std.specs.Prelude.{◌≡◌, ℕ, ◌+◌, ◌<◌, ◌≤◌, List, [], ◌∷◌, ◌++◌, flat_map, length, Option, None, Some, Result, OnOk, OnErr, IsErrOf, ⊤}
 use Rattle.std.specs.Io.KnownBytes.{Appends, Keeps}
 use Rattle.genie_base.specs.Causes.{Rose}
 use Rattle.genie_base.specs.declared.semantics.Direction.{Direction}
@@ -44,10 +44,23 @@ HoldsOfInputs P opened (d ∷ devices) = HoldsOfInput P d.input (opened + 1) × 
 abbrev pub KeptUpTo : ℕ → HostView → HostView → Type 0
 KeptUpTo most old new = (k : ℕ) → k ≤ most → new.handle k ≡ old.handle k
 
+-- the handles behind this one are as before
+abbrev pub KeptBehind : ℕ → HostView → HostView → Type 0
+KeptBehind last old new = (k : ℕ) → last < k → new.handle k ≡ old.handle k
+
 -- every count of faults is as before
 pub record SameFaults (old new : HostView) : Type 0 where
   pub handles : (k : ℕ) → (new.handle k).faults ≡ (old.handle k).faults
   pub refusals : new.refusals ≡ old.refusals
+
+-- the first ones of these openings were tried, and all of them but the last one at most were opened
+pub record TriesFront (openings : List (List ℕ × Direction)) (old new : HostView) : Type 0 where
+  pub front : List (List ℕ × Direction)
+  pub rest : List (List ℕ × Direction)
+  pub split : openings ≡ front ++ rest
+  pub tried : new.tried ≡ old.tried ++ front
+  pub opened : new.opened ≤ old.opened + length front
+  pub refused : old.opened + length front ≤ new.opened + 1
 
 -- these were opened, and nothing failed
 pub record OpensAll (openings : List (List ℕ × Direction)) (old new : HostView) : Type 0 where
@@ -78,10 +91,27 @@ IsReading host name handle = (host.handle handle).mode ≡ Reading
 abbrev pub IsSameHandle : HostView → HostView → ℕ → ℕ → Type 0
 IsSameHandle old new number handle = new.handle handle ≡ old.handle handle
 
--- opening files: those that were open stay as they are, and a failure has its cause
-pub record Opening {E T : Type 0} (failed : E) (old new : HostView) (result : Result T E) : Type 0 where
+-- nothing was written to an output: it is fresh where it was opened, and else as before
+pub record IsUnwritten (old new : HostView) (number handle : ℕ) : Type 0 where
+  pub fresh : handle ≤ new.opened → IsFresh old new number handle
+  pub closed : new.opened < handle → IsSameHandle old new number handle
+
+-- Opening files: the handles up to the last one that was open stay as they are, and so do those behind the last one that is
+-- open now. After a failure, which has its cause, fewer were opened than these.
+pub record Opening {E T : Type 0} (failed : E) (openings : List (List ℕ × Direction)) (old new : HostView) (result : Result T E) : Type 0 where
   pub kept : KeptUpTo old.opened old new
+  pub later : old.opened ≤ new.opened
+  pub behind : KeptBehind new.opened old new
+  pub tried : TriesFront openings old new
+  pub few : OnErr result (new.opened < old.opened + length openings)
   pub cause : IsErrOf result failed → Rose old.refusals new.refusals
+
+-- nothing was opened, and the replies and the outputs are as before
+pub record OnlyReads (devices : List DeviceLine) (old new : HostView) : Type 0 where
+  pub replies : new.handle 0 ≡ old.handle 0
+  pub outputs : HoldsOfOutputs (IsSameHandle old new) 1 devices
+  pub tried : new.tried ≡ old.tried
+  pub opened : new.opened ≡ old.opened
 
 -- what the devices sent was written, whole, to their outputs
 abbrev pub HasSent : State → HostView → HostView → ℕ → ℕ → Type 0
@@ -91,9 +121,13 @@ HasSent s old new number handle = Appends (old.handle handle).bytes (new.handle 
 abbrev pub HasSentFront : State → HostView → HostView → ℕ → ℕ → Type 0
 HasSentFront s old new number handle = AppendsFront (old.handle handle).bytes (new.handle handle).bytes (sent_of s number)
 
--- some count of faults rose
-abbrev pub HandleRose : HostView → HostView → Type 0
-HandleRose old new = (k : ℕ) × Rose (old.handle k).faults (new.handle k).faults
+-- the count of faults of a handle up to this one rose
+abbrev pub HandleRose : ℕ → HostView → HostView → Type 0
+HandleRose most old new = (k : ℕ) × (k ≤ most) × Rose (old.handle k).faults (new.handle k).faults
+
+-- the last handle of these lines' files, where so many files were opened before
+abbrev pub last_handle : ℕ → List DeviceLine → ℕ
+last_handle opened devices = opened + length (flat_map openings_of devices)
 
 abbrev pub IsWriting : HostView → ℕ → ℕ → Type 0
 IsWriting host number handle = (host.handle handle).mode ≡ Writing
@@ -107,7 +141,8 @@ WritesFile (Some name) s number handle old new result = WritesAll handle old new
 pub record WritesFiles {E : Type 0} (s : State) (opened : ℕ) (devices : List DeviceLine) (old new : HostView) (result : Result (Unit {0}) E) : Type 0 where
   pub kept : KeptUpTo opened old new
   pub tried : new.tried ≡ old.tried
+  pub none_opened : new.opened ≡ old.opened
   pub whole : OnOk result (HoldsOfOutputs (HasSent s old new) opened devices)
   pub front : OnErr result (HoldsOfOutputs (HasSentFront s old new) opened devices)
-  pub cause : OnErr result (HandleRose old new)
+  pub cause : OnErr result (HandleRose (last_handle opened devices) old new)
   pub faults : OnOk result (SameFaults old new)

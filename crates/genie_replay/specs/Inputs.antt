@@ -8,7 +8,7 @@ use Rattle.genie_model.specs.State.{State, boot}
 use Rattle.genie_script.specs.declared.line.DeviceLine.{DeviceLine}
 use Rattle.genie_replay.specs.declared.inputs.Unread.{Unread}
 use Rattle.genie_replay.specs.declared.inputs.Unread.TheVariants.{Host, Memory}
-use Rattle.genie_replay.specs.Files.{HandleRose, HoldsOfOutputs, IsSameHandle, KeptUpTo, SameFaults, openings_of}
+use Rattle.genie_replay.specs.Files.{HandleRose, HoldsOfOutputs, IsSameHandle, KeptUpTo, SameFaults, last_handle, openings_of}
 
 -- told bytes, where they are told
 abbrev pub Tells : Option (List ℕ) → List ℕ → Type 0
@@ -21,11 +21,11 @@ CountsFor handle old new (Ok x) = (new.handle handle).faults ≡ (old.handle han
 CountsFor handle old new (Err Memory) = (new.handle handle).faults ≡ (old.handle handle).faults
 CountsFor handle old new (Err Host) = Rose (old.handle handle).faults (new.handle handle).faults
 
--- the same of all counts
-abbrev pub Counts : HostView → HostView → Result (Unit {0}) Unread → Type 0
-Counts old new (Ok x) = SameFaults old new
-Counts old new (Err Memory) = SameFaults old new
-Counts old new (Err Host) = HandleRose old new
+-- the same of all counts: the one that rose is that of a handle up to this one
+abbrev pub Counts : ℕ → HostView → HostView → Result (Unit {0}) Unread → Type 0
+Counts most old new (Ok x) = SameFaults old new
+Counts most old new (Err Memory) = SameFaults old new
+Counts most old new (Err Host) = HandleRose most old new
 
 -- the state with the bytes of a file as a device's input
 pub record WithFile (number : ℕ) (told : Option (List ℕ)) (s : State) (machine : Option State) : Type 0 where
@@ -53,12 +53,13 @@ pub record HasInputs (old : HostView) (opened : ℕ) (devices : List DeviceLine)
   pub is : machine ≡ Some now
   pub sets : SetsInputs old opened devices s now
 
--- reading the inputs: the outputs and the handles before stay as they are
+-- reading the inputs: the outputs and the handles before stay as they are, and nothing is opened
 pub record ReadsInputs (opened : ℕ) (devices : List DeviceLine) (machine after : Option State) (old new : HostView) (result : Result (Unit {0}) Unread) : Type 0 where
   pub kept : KeptUpTo opened old new
   pub outputs : HoldsOfOutputs (IsSameHandle old new) opened devices
   pub tried : new.tried ≡ old.tried
-  pub counts : Counts old new result
+  pub none_opened : new.opened ≡ old.opened
+  pub counts : Counts (last_handle opened devices) old new result
   pub has : OnOk result (IfSome machine (λ s. HasInputs old opened devices s after))
 
 -- the bytes of the named file
@@ -85,6 +86,9 @@ abbrev pub AreTold : (List ℕ → Option (List ℕ)) → List DeviceLine → Ty
 AreTold names [] = ⊤
 AreTold names (d ∷ devices) = IsTold names d.input × AreTold names devices
 
--- Where the host tells the bytes of each input, this is the boot of the configuration with these inputs.
-abbrev pub IsBoot : (List ℕ → Option (List ℕ)) → Config → List DeviceLine → State → Type 0
-IsBoot names c devices start = AreTold names devices → start ≡ boot c (inputs_from names (λ _. []) devices)
+-- How a run begins: always with a boot of the configuration, with some inputs. Where the host tells the bytes of each
+-- device's input, the inputs are these.
+pub record IsBoot (names : List ℕ → Option (List ℕ)) (c : Config) (devices : List DeviceLine) (start : State) : Type 0 where
+  pub inputs : ℕ → List ℕ
+  pub boots : start ≡ boot c inputs
+  pub told : AreTold names devices → start ≡ boot c (inputs_from names (λ _. []) devices)

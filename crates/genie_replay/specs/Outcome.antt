@@ -1,5 +1,5 @@
 -- What each status says of the script, of the replies and of the devices' outputs.
-use Rattle.std.specs.Prelude.{◌≡◌, ◌⊎◌, ℕ, Bool, false, List, [], ◌∷◌, ◌++◌, codes, flat_map, map, Option, None, Some, ⊤, if◌then◌else◌, ◌&&◌, bytes_eq, nat_lt, length, not, ◌==◌}
+use Rattle.std.specs.Prelude.{◌≡◌, ◌≢◌, ◌⊎◌, ℕ, Bool, false, List, [], ◌∷◌, ◌++◌, codes, flat_map, map, Option, None, Some, ⊤, if◌then◌else◌, ◌&&◌, bytes_eq, nat_lt, length, not, ◌==◌}
 use Rattle.std.specs.Io.KnownBytes.{Appends, Keeps}
 use Rattle.genie_base.specs.Causes.{Rose}
 use Rattle.genie_base.specs.Configs.{Config}
@@ -17,7 +17,7 @@ use Rattle.genie_script.specs.Texts.{lines_of}
 use Rattle.genie_script.specs.declared.line.DeviceLine.{DeviceLine}
 use Rattle.genie_replay.specs.declared.status.Status.{Status}
 use Rattle.genie_replay.specs.declared.status.Status.TheVariants.{HostFault, NoMemory}
-use Rattle.genie_replay.specs.Files.{HandleRose, HoldsOfOutputs, openings_of}
+use Rattle.genie_replay.specs.Files.{HandleRose, HoldsOfOutputs, IsUnwritten, TriesFront, openings_of}
 use Rattle.genie_replay.specs.Inputs.{IsBoot}
 use Rattle.genie_replay.specs.Statuses.{status_of}
 use Rattle.genie_replay.specs.Write.{AppendsFront}
@@ -83,18 +83,28 @@ pub record RanInPart (script : List ℕ) (c : Config) (devices : List DeviceLine
 abbrev pub WroteNothing : HostView → HostView → Type 0
 WroteNothing old new = Keeps (old.handle 0).bytes (new.handle 0).bytes
 
--- The boot part ends the script: no reply was written, and nothing but the script was opened.
+-- No reply was written, and no opening but the script's was tried.
 pub record RanNothing (script : List ℕ) (old new : HostView) : Type 0 where
   pub written : WroteNothing old new
   pub tried : new.tried ≡ old.tried ++ (script, Inward) ∷ []
 
+-- No reply was written, the first ones of the run's openings were tried, the script's at least, and nothing was written to an
+-- output.
+pub record CutShort (script : List ℕ) (devices : List DeviceLine) (old new : HostView) : Type 0 where
+  pub written : WroteNothing old new
+  pub tried : TriesFront (openings script devices) old new
+  pub begun : tried.front ≢ []
+  pub outputs : HoldsOfOutputs (IsUnwritten old new) 1 devices
+
+-- a run that a failure cut short: before the reply to the boot part, or behind it
+abbrev pub CutOf : List ℕ → Boot → HostView → HostView → Type 0
+CutOf script (Refused ending) old new = RanNothing script old new
+CutOf script (Booted part before lines) old new = CutShort script part.devices old new ⊎ RanInPart script part.config part.devices (events_from before lines) old new
+
 abbrev pub IsOutcome : List ℕ → Boot → HostView → HostView → Status → Type 0
--- a run that a failure cut short
-IsOutcome script (Refused ending) old new HostFault = WroteNothing old new
-IsOutcome script (Refused ending) old new NoMemory = WroteNothing old new
-IsOutcome script (Booted part before lines) old new HostFault = WroteNothing old new ⊎ RanInPart script part.config part.devices (events_from before lines) old new
-IsOutcome script (Booted part before lines) old new NoMemory = WroteNothing old new ⊎ RanInPart script part.config part.devices (events_from before lines) old new
--- every other run ends as the script does
+IsOutcome script boot old new HostFault = CutOf script boot old new
+IsOutcome script boot old new NoMemory = CutOf script boot old new
+-- every other run ends as the script does: where its boot part ends it, nothing is run
 IsOutcome script (Refused ending) old new status = (status ≡ status_of ending) × RanNothing script old new
 IsOutcome script (Booted part before lines) old new status = (status ≡ status_of (ending_from before lines)) × Ran script part.config part.devices (events_from before lines) old new
 
@@ -103,9 +113,9 @@ abbrev pub OutcomeOf : List ℕ → Option (List ℕ) → HostView → HostView 
 OutcomeOf script None old new status = ⊤
 OutcomeOf script (Some text) old new status = IsOutcome script (boot_part script 0 (lines_of text)) old new status
 
--- the count of a handle or of the openings rose
+-- the count of a handle that is open rose, or that of the openings
 abbrev pub HasHostCause : HostView → HostView → Type 0
-HasHostCause old new = HandleRose old new ⊎ Rose old.refusals new.refusals
+HasHostCause old new = HandleRose new.opened old new ⊎ Rose old.refusals new.refusals
 
 abbrev pub FaultOf : HostView → HostView → Status → Type 0
 FaultOf old new status = status ≡ HostFault → HasHostCause old new

@@ -19,6 +19,7 @@ use Rattle.genie_replay.specs.Write.{AppendsFront}
 pub record OnlyRun (old new : HostView) : Type 0 where
   pub others : (k : ℕ) → k ≢ 0 → k ≢ 1 → new.handle k ≡ old.handle k
   pub tried : new.tried ≡ old.tried
+  pub opened : new.opened ≡ old.opened
 
 -- the counts of faults didn't fall
 abbrev pub LaterFaults : HostView → HostView → Type 0
@@ -30,7 +31,7 @@ pub record Leaves (status : Status) (old new : HostView) : Type 0 where
   pub later : LaterFaults old new
   pub refusals : new.refusals ≡ old.refusals
   pub same : status ≢ HostFault → SameFaults old new
-  pub cause : status ≡ HostFault → HandleRose old new
+  pub cause : status ≡ HostFault → HandleRose 1 old new
 
 -- all of these events were stepped, and their replies were written
 pub record Played (start : State) (events : List Numbered) (machine : Option State) (old new : HostView) : Type 0 where

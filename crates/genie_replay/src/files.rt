@@ -1,7 +1,7 @@
 //! The files of the devices.
-ghost use Rattle.std.specs.Prelude.{◌≡◌, ◌<◌, ◌≤◌, ◌+◌, ◌*◌, OnOk, IfSome, IsSome, length, flat_map};
+ghost use Rattle.std.specs.Prelude.{◌≡◌, ◌<◌, ◌≤◌, ◌+◌, ◌*◌, OnErr, OnOk, IfSome, IsSome, length, flat_map};
 ghost use Rattle.genie_base.specs.declared.semantics.Direction.TheVariants.{Inward, Outward};
-ghost use Rattle.genie_replay.specs.Files.{file_opening, openings_of, HoldsOfFile, HoldsOfInput, HoldsOfInputs, HoldsOfOutputs, OpensAll, IsFresh, IsFreshFor, Opening, IsWriting, WritesFile, WritesFiles};
+ghost use Rattle.genie_replay.specs.Files.{file_opening, openings_of, HoldsOfFile, HoldsOfInput, HoldsOfInputs, HoldsOfOutputs, OpensAll, IsFresh, IsFreshFor, IsUnwritten, Opening, IsWriting, WritesFile, WritesFiles};
 
 use crate::write::write_all;
 use genie_host::{Failed, Host, OpenRefused};
@@ -11,7 +11,7 @@ use genie_script::{DeviceLine, Name};
 // Opens an input, if there is one.
 fn open_input<H: Host>(host: &mut H, input: &Option<Name>) -> Result<(), OpenRefused>
     requires { (H.view host.old).opened < 20 }
-    ensures opening { Opening OpenRefused.Failed (H.view host.old) (H.view host.new) result }
+    ensures opening { Opening OpenRefused.Failed (file_opening Inward input.now) (H.view host.old) (H.view host.new) result }
     ensures opened { OnOk result (OpensAll (file_opening Inward input.now) (H.view host.old) (H.view host.new)) }
     ensures fresh { OnOk result (HoldsOfInput (IsFreshFor (H.view host.old) (H.view host.new)) input.now ((H.view host.old).opened + 1)) }
 {
@@ -27,7 +27,7 @@ fn open_input<H: Host>(host: &mut H, input: &Option<Name>) -> Result<(), OpenRef
 // Opens an output, if there is one.
 fn open_output<H: Host>(host: &mut H, output: &Option<Name>) -> Result<(), OpenRefused>
     requires { (H.view host.old).opened < 20 }
-    ensures opening { Opening OpenRefused.Failed (H.view host.old) (H.view host.new) result }
+    ensures opening { Opening OpenRefused.Failed (file_opening Outward output.now) (H.view host.old) (H.view host.new) result }
     ensures opened { OnOk result (OpensAll (file_opening Outward output.now) (H.view host.old) (H.view host.new)) }
     ensures fresh { OnOk result (HoldsOfFile (IsFresh (H.view host.old) (H.view host.new)) output.now 0 (H.view host.new).opened) }
 {
@@ -43,7 +43,7 @@ fn open_output<H: Host>(host: &mut H, output: &Option<Name>) -> Result<(), OpenR
 // Opens the files of a device line: the input, and then the output.
 fn open_line<H: Host>(host: &mut H, device: &DeviceLine) -> Result<(), OpenRefused>
     requires { (H.view host.old).opened < 19 }
-    ensures opening { Opening OpenRefused.Failed (H.view host.old) (H.view host.new) result }
+    ensures opening { Opening OpenRefused.Failed (openings_of device.now) (H.view host.old) (H.view host.new) result }
     ensures opened { OnOk result (OpensAll (openings_of device.now) (H.view host.old) (H.view host.new)) }
     ensures input { OnOk result (HoldsOfInput (IsFreshFor (H.view host.old) (H.view host.new)) device.now.input ((H.view host.old).opened + 1)) }
     ensures fresh { OnOk result (HoldsOfFile (IsFresh (H.view host.old) (H.view host.new)) device.now.output 0 (H.view host.new).opened) }
@@ -58,10 +58,11 @@ fn open_line<H: Host>(host: &mut H, device: &DeviceLine) -> Result<(), OpenRefus
 /// Opens the files of the devices, in the order of their lines.
 pub(crate) fn open_files<H: Host>(host: &mut H, devices: &[DeviceLine]) -> Result<(), OpenRefused>
     requires { (H.view host.old).opened + 2 * length devices.now < 20 }
-    ensures opening { Opening OpenRefused.Failed (H.view host.old) (H.view host.new) result }
+    ensures opening { Opening OpenRefused.Failed (flat_map openings_of devices.now) (H.view host.old) (H.view host.new) result }
     ensures opened { OnOk result (OpensAll (flat_map openings_of devices.now) (H.view host.old) (H.view host.new)) }
     ensures inputs { OnOk result (HoldsOfInputs (IsFreshFor (H.view host.old) (H.view host.new)) (H.view host.old).opened devices.now) }
     ensures fresh { OnOk result (HoldsOfOutputs (IsFresh (H.view host.old) (H.view host.new)) (H.view host.old).opened devices.now) }
+    ensures unwritten { OnErr result (HoldsOfOutputs (IsUnwritten (H.view host.old) (H.view host.new)) (H.view host.old).opened devices.now) }
 {
     match devices.split_first() {
         None => Ok(()),

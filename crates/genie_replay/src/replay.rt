@@ -3,7 +3,7 @@ ghost use Rattle.std.specs.Prelude.{◌≡◌, ◌≢◌, ◌≤◌, ◌↔◌, 
 ghost use Rattle.std.specs.Io.KnownBytes.{prepend_known};
 ghost use Rattle.genie_host.specs.Host.{Reading};
 ghost use Rattle.genie_replay.specs.Booted.{RunsBooted, RunsFrom};
-ghost use Rattle.genie_replay.specs.Files.{HandleRose, HoldsOfInputs, HoldsOfOutputs, IsReading, IsWriting};
+ghost use Rattle.genie_replay.specs.Files.{HandleRose, HoldsOfInputs, HoldsOfOutputs, IsReading, IsWriting, last_handle};
 ghost use Rattle.genie_replay.specs.Plays.{IsFirst};
 ghost use Rattle.genie_replay.specs.Outcome.{FaultOf, OutcomeOf, is_script_name, script_of};
 
@@ -50,7 +50,8 @@ fn run_started<H: Host>(
     requires first { IfSome flat.old IsFirst }
     ensures runs { RunsFrom flat.old devices.now (prepend_known script.old ((H.view host.old).handle 1).bytes) step line.old
         before (H.view host.old) (H.view host.new) result }
-    ensures fault { result ≡ Status.HostFault → HandleRose (H.view host.old) (H.view host.new) }
+    ensures opened { (H.view host.new).opened ≡ (H.view host.old).opened }
+    ensures fault { result ≡ Status.HostFault → HandleRose (last_handle 1 devices.now) (H.view host.old) (H.view host.new) }
     ensures not_usage { result ≢ Status.Usage }
 {
     match write_all(host, REPLIES, b"ok\n") {
@@ -83,7 +84,8 @@ fn run_booted<H: Host>(
     requires outputs { HoldsOfOutputs (IsWriting (H.view host.old)) 1 part.now.devices }
     ensures runs { RunsBooted part.now (prepend_known script.old ((H.view host.old).handle 1).bytes) step line.old before
         (H.view host.old) (H.view host.new) result }
-    ensures fault { result ≡ Status.HostFault → HandleRose (H.view host.old) (H.view host.new) }
+    ensures opened { (H.view host.new).opened ≡ (H.view host.old).opened }
+    ensures fault { result ≡ Status.HostFault → HandleRose (last_handle 1 part.now.devices) (H.view host.old) (H.view host.new) }
     ensures not_usage { result ≢ Status.Usage }
 {
     let config = part.config();
@@ -135,7 +137,7 @@ pub fn run<H: Host>(alloc: Global, words: &[String], host: &mut H) -> Status
     // The replies and the outputs are those of the flat machine.
     ensures outcome { IfSome (script_of (map string_bytes words.now)) (λ name.
         OutcomeOf name ((H.view host.old).names name) (H.view host.old) (H.view host.new) result) }
-    // `HostFault` comes only where a count rose.
+    // `HostFault` comes only where a count rose: that of an open handle, or of the openings.
     ensures fault { FaultOf (H.view host.old) (H.view host.new) result }
 {
     match words {
