@@ -1,18 +1,12 @@
 -- Scripts of other levels and thresholds run alike.
 use Rattle.std.proofs.Common.{◌≡◌, ℕ, List, [], sym, ap, ◌∙◌}
 use Rattle.genie_base.specs.Configs.{Config}
-use Rattle.genie_base.specs.declared.event.Event.{Event}
-use Rattle.genie_base.specs.declared.reply.Reply.{Reply}
-use Rattle.genie_host.specs.Host.{HostView}
 use Rattle.genie_model.specs.Flat.{sent_of}
-use Rattle.genie_model.specs.Laws.{RunsAlike, SameButLevels, ShowNoFault, with_thresholds}
+use Rattle.genie_model.specs.Laws.{RunsAlike, with_thresholds}
 use Rattle.genie_model.specs.State.{State, boot}
-use Rattle.genie_model.specs.Step.{Follows}
-use Rattle.genie_script.specs.Judge.{Numbered}
-use Rattle.genie_script.specs.declared.line.DeviceLine.{DeviceLine}
-use Rattle.genie_replay.specs.Alike.{SameButThresholds, SameRun, ScriptsRunAlike}
-use Rattle.genie_replay.specs.Inputs.{AreTold, inputs_from}
-use Rattle.genie_replay.specs.Outcome.{Ran, events_of}
+use Rattle.genie_replay.specs.Alike.{SameButThresholds, ScriptsRunAlike}
+use Rattle.genie_replay.specs.Inputs.{inputs_from}
+use Rattle.genie_replay.specs.Outcome.{events_of}
 
 other_boot : (c d : Config) (inputs : ℕ → List ℕ) → SameButThresholds c d → boot d inputs ≡ with_thresholds d.copy_out d.reverse_copy_out (boot c inputs)
 other_boot c d inputs same = ap (λ (x : Config). boot x inputs) same
