@@ -12,7 +12,7 @@ use Rattle.genie_base.specs.declared.semantics.Class.TheVariants.{Copy, Move}
 use Rattle.genie_model.specs.State.{State, Region, Orphan, Process, Transfer}
 use Rattle.genie_model.specs.Regions.{extent_of, regions_of, regions_at, is_region, region_numbered, orphan_numbered, committed}
 use Rattle.genie_model.specs.Pending.{names, wired}
-use Rattle.genie_model.specs.Space.{is_move, is_named}
+use Rattle.genie_model.specs.Space.{is_move, is_named, tidy}
 use Rattle.genie_model.specs.Refusing.{frames_to_wire}
 
 -- the application's area ends at page 512, and the system's follows it up to page 1,024
@@ -69,6 +69,14 @@ NumbersDiffer s = AllPairs (λ (a b : ℕ). a ≢ b) (numbers s)
 abbrev pub OrphansAreNamed : State → Type 0
 OrphansAreNamed s = All (λ (o : Orphan). IsTrue (is_named s.transfers o)) s.orphans
 
+-- the places of each orphan rise, none of them twice
+abbrev pub OrphansAreInOrder : State → Type 0
+OrphansAreInOrder s = All (λ (o : Orphan). AllPairs (λ (a b : ℕ × ℕ). a.0 < b.0) o.bytes) s.orphans
+
+-- nothing is left of orphans but what pending weak transfers name and cover
+abbrev pub OrphansAreTidy : State → Type 0
+OrphansAreTidy s = tidy s ≡ s
+
 -- the orphan has a byte at place x
 abbrev pub has_place : ℕ → Orphan → Bool
 has_place x o = list_any (λ (e : ℕ × ℕ). e.0 == x) o.bytes
@@ -124,5 +132,7 @@ pub record IsOrderly (s : State) : Type 0 where
   pub transfers : NumbersRise s
   pub numbers : NumbersDiffer s
   pub orphans : OrphansAreNamed s
+  pub order : OrphansAreInOrder s
+  pub tidied : OrphansAreTidy s
   pub ranges : RangesLie s
   pub holds : HeldForOne s
