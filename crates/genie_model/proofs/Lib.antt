@@ -28,7 +28,9 @@ pub mod Named
 pub mod Naming
 pub mod Numbered
 pub mod Numbering
+pub mod Ordered
 pub mod Orderly
+pub mod Orphaned
 pub mod Placing
 pub mod Quiet
 pub mod Ranges
@@ -41,6 +43,8 @@ pub mod Shrinking
 pub mod Spacing
 pub mod Standing
 pub mod Staying
+pub mod Stepping
 pub mod Thresholds
+pub mod Tidied
 pub mod Unused
 pub mod Wiring

@@ -1,7 +1,7 @@
 //! Laws of the flat machine.
 ghost use Rattle.std.specs.Prelude.{◌≡◌, length};
 ghost use Rattle.genie_model.specs.Laws.{StepsGrow, PlainStepsShowNoFault, RefusalsChangeNothing, StepsKeepConfig, LevelsStepAlike, ThresholdsStepAlike, RunsAlike, RunsCount, Stays, RunsStayOrderly};
-ghost use Rattle.genie_model.specs.Orderly.{RegionsAreApart, WiredIsBounded, CommittedIsBounded, NumbersRise, NumbersDiffer, OrphansAreNamed, RangesLie, HeldForOne};
+ghost use Rattle.genie_model.specs.Orderly.{RegionsAreApart, WiredIsBounded, CommittedIsBounded, NumbersRise, NumbersDiffer, OrphansAreNamed, OrphansAreInOrder, OrphansAreTidy, RangesLie, HeldForOne};
 ghost use Rattle.genie_model.specs.Rows.{WorkedRows};
 
 /// What a device has sent stays sent, and numbers of transfers rise by at most one in a step.
@@ -91,6 +91,18 @@ pub fn numbers_differ()
 #[tactic(auto, using(crate::proofs::Named::orphans_are_named))]
 pub fn orphans_are_named()
     ensures { Stays OrphansAreNamed }
+{}
+
+/// The places of each orphan rise, none of them twice.
+#[tactic(auto, using(crate::proofs::Ordered::orphans_in_order))]
+pub fn orphans_in_order()
+    ensures { Stays OrphansAreInOrder }
+{}
+
+/// Nothing is left of orphans but what pending weak transfers name and cover.
+#[tactic(auto, using(crate::proofs::Tidied::orphans_tidy))]
+pub fn orphans_tidy()
+    ensures { Stays OrphansAreTidy }
 {}
 
 /// Every named range lies in the region or the orphan that it names.
