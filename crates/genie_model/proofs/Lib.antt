@@ -4,12 +4,14 @@ pub mod Adding
 pub mod Alike
 pub mod Apart
 pub mod Arriving
+pub mod Beside
 pub mod Booting
 pub mod Calling
 pub mod Causes
 pub mod Changing
 pub mod Collecting
 pub mod Counting
+pub mod Covered
 pub mod Distinct
 pub mod Finding
 pub mod Finishing
@@ -34,6 +36,7 @@ pub mod Orphaned
 pub mod Placing
 pub mod Quiet
 pub mod Ranges
+pub mod Receivers
 pub mod Refusals
 pub mod Remaining
 pub mod Results

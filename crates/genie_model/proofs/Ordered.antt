@@ -42,7 +42,7 @@ mapped_rise f same (e ∷ es) h = AllPairs-cons Below (f e) (map f es)
     (All-map (λ (y : ℕ × ℕ). (f e).0 < y.0) f es (λ k d lt. rw (same e, same (get_or es k d)) (h zero (suc k) d (omega arith) (omega arith))))
     (mapped_rise f same es (pairs_tail Below e es h))
 
-stored_place : (x : ℕ) (new : List ℕ) (e : ℕ × ℕ) → (stored_at x new e).0 ≡ e.0
+pub stored_place : (x : ℕ) (new : List ℕ) (e : ℕ × ℕ) → (stored_at x new e).0 ≡ e.0
 stored_place x new e = cond_both (is_within_range x (length new) e) (e.0, slice_index new (e.0 - x)) e (λ (y : ℕ × ℕ). y.0 ≡ e.0) (λ _. refl) (λ _. refl)
 
 stored_rises : (k x : ℕ) (new : List ℕ) (o : Orphan) → Rises o → Rises (stored_in_orphan k x new o)
