@@ -4,12 +4,14 @@ pub mod Adding
 pub mod Alike
 pub mod Apart
 pub mod Arriving
+pub mod Beside
 pub mod Booting
 pub mod Calling
 pub mod Causes
 pub mod Changing
 pub mod Collecting
 pub mod Counting
+pub mod Covered
 pub mod Distinct
 pub mod Finding
 pub mod Finishing
@@ -28,10 +30,13 @@ pub mod Named
 pub mod Naming
 pub mod Numbered
 pub mod Numbering
+pub mod Ordered
 pub mod Orderly
+pub mod Orphaned
 pub mod Placing
 pub mod Quiet
 pub mod Ranges
+pub mod Receivers
 pub mod Refusals
 pub mod Remaining
 pub mod Results
@@ -41,6 +46,8 @@ pub mod Shrinking
 pub mod Spacing
 pub mod Standing
 pub mod Staying
+pub mod Stepping
 pub mod Thresholds
+pub mod Tidied
 pub mod Unused
 pub mod Wiring

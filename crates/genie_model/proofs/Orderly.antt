@@ -1,25 +1,34 @@
 -- Every state that a run reaches is orderly.
-use Rattle.std.proofs.Common.{ℕ, List, [], ◌∷◌, refl, sym, arith}
-use Rattle.std.specs.Prelude.{Option, None, IsTrue, All}
-use Rattle.std.proofs.lemmas.List.Elements.{All-head, All-tail, All-replicate}
-use Rattle.genie_base.specs.Configs.{Config, Fits}
+use Rattle.std.proofs.Common.{ℕ, ◌+◌, List, [], ◌∷◌, refl, sym, arith}
+use Rattle.std.specs.Prelude.{Option, Some, None, IsTrue, All}
+use Rattle.std.proofs.lemmas.List.Elements.{All-cons, All-head, All-tail, All-replicate}
+use Rattle.genie_base.specs.Configs.{Config, DeviceConfig, Fits}
 use Rattle.genie_base.specs.Events.{is_whole, mark_of}
 use Rattle.genie_base.specs.declared.event.Event.{Event}
 use Rattle.genie_base.specs.declared.reply.Mark.{Mark}
 use Rattle.genie_base.specs.declared.reply.Reply.{Reply}
 use Rattle.genie_model.specs.Laws.{RunsStayOrderly}
-use Rattle.genie_model.specs.Orderly.{IsOrderly, AreApart}
+use Rattle.genie_model.specs.Orderly.{IsOrderly, AreApart, ReceivesForInput}
 use Rattle.genie_model.specs.Regions.{regions_of}
-use Rattle.genie_model.specs.State.{State, Process, boot}
+use Rattle.genie_model.specs.State.{State, Process, boot, boot_device, boot_devices}
 use Rattle.genie_model.specs.Step.{step, Follows}
 use Rattle.genie_model.proofs.Distinct.{numbers_differ}
 use Rattle.genie_model.proofs.Holding.{held_for_one}
 use Rattle.genie_model.proofs.Keeping.{steps_keep_config}
 use Rattle.genie_model.proofs.Named.{orphans_are_named}
 use Rattle.genie_model.proofs.Numbering.{numbers_rise}
+use Rattle.genie_model.proofs.Ordered.{orphans_in_order}
 use Rattle.genie_model.proofs.Ranges.{ranges_lie}
+use Rattle.genie_model.proofs.Receivers.{posted_are_inputs, matched_are_inputs}
 use Rattle.genie_model.proofs.Spacing.{none_apart, places_stay, regions_stay_apart, committed_is_bounded}
+use Rattle.genie_model.proofs.Tidied.{orphans_tidy}
 use Rattle.genie_model.proofs.Wiring.{wired_is_bounded}
+
+-- no device is receiving
+boot_matched : (s : State) (inputs : ℕ → List ℕ) (d : ℕ) (configs : List (Option DeviceConfig)) → All (ReceivesForInput s) (boot_devices inputs d configs)
+boot_matched s inputs d [] = λ k x l. absurd (omega arith)
+boot_matched s inputs d (None ∷ configs) = All-cons (ReceivesForInput s) None (boot_devices inputs (d + 1) configs) tt (boot_matched s inputs (d + 1) configs)
+boot_matched s inputs d (Some c ∷ configs) = All-cons (ReceivesForInput s) (boot_device inputs d (Some c)) (boot_devices inputs (d + 1) configs) tt (boot_matched s inputs (d + 1) configs)
 
 pub boot_is_orderly : (c : Config) (inputs : ℕ → List ℕ) → Fits c → IsOrderly (boot c inputs)
 boot_is_orderly c inputs fits = record {
@@ -31,8 +40,12 @@ boot_is_orderly c inputs fits = record {
   transfers = record { few = omega arith; order = λ i j d l m. absurd (omega arith); below = λ k d l. absurd (omega arith) };
   numbers = λ i j d l m. absurd (omega arith);
   orphans = λ k d l. absurd (omega arith);
+  order = λ k d l. absurd (omega arith);
+  tidied = refl;
   ranges = λ k d l. absurd (omega arith);
   holds = record { held = λ k d l. absurd (omega arith); one = λ k named. omega arith };
+  posted = λ k d l. absurd (omega arith);
+  matched = boot_matched (boot c inputs) inputs 0 c.devices;
 }
 
 step_is_orderly : (s : State) (e : Event) (m : Mark) → IsTrue (is_whole e) → IsOrderly s → IsOrderly (step s e m).0
@@ -47,8 +60,12 @@ step_is_orderly s e m whole o =
       transfers = numbers_rise s e m whole o;
       numbers = numbers_differ s e m whole o;
       orphans = orphans_are_named s e m whole o;
+      order = orphans_in_order s e m whole o;
+      tidied = orphans_tidy s e m whole o;
       ranges = ranges_lie s e m whole o;
       holds = held_for_one s e m whole o;
+      posted = posted_are_inputs s e m whole o;
+      matched = matched_are_inputs s e m whole o;
     }
 
 follows_orderly : (s : State) (es : List Event) (rs : List Reply) (last : State) → IsOrderly s → All (λ (e : Event). IsTrue (is_whole e)) es → Follows s es rs last → IsOrderly last

@@ -2,6 +2,7 @@ pub mod Changes
 pub mod Ending
 pub mod Flat
 pub mod Inputs
+pub mod Integrity
 pub mod Laws
 pub mod Orderly
 pub mod Outputs

@@ -1,5 +1,5 @@
 -- What is so in every state that a run reaches.
-use Rattle.std.specs.Prelude.{◌≡◌, ◌≢◌, ◌⊎◌, ℕ, ◌+◌, ◌*◌, ◌<◌, ◌≤◌, Bool, true, false, IsTrue, ◌&&◌, ◌==◌, List, ◌++◌, length, map, flat_map, count_by, All, AllPairs, Option, None, Some, ⊤}
+use Rattle.std.specs.Prelude.{◌≡◌, ◌≢◌, ◌⊎◌, ℕ, ◌+◌, ◌*◌, ◌<◌, ◌≤◌, Bool, true, false, IsTrue, ◌&&◌, ◌==◌, List, ◌++◌, length, map, flat_map, count_by, All, AllPairs, Option, None, Some, IfSome, ⊤}
 use Rattle.std.specs.List.{list_any}
 use Rattle.genie_base.specs.Configs.{Fits}
 use Rattle.genie_base.specs.Regions.{AreInOrder}
@@ -9,10 +9,12 @@ use Rattle.genie_base.specs.declared.region.RegionState.{RegionState}
 use Rattle.genie_base.specs.declared.region.RegionState.TheVariants.{Live, Out, In, Held}
 use Rattle.genie_base.specs.declared.semantics.Class.{Class}
 use Rattle.genie_base.specs.declared.semantics.Class.TheVariants.{Copy, Move}
-use Rattle.genie_model.specs.State.{State, Region, Orphan, Process, Transfer}
+use Rattle.genie_model.specs.declared.datagram.Fate.{Fate}
+use Rattle.genie_model.specs.declared.datagram.Fate.TheVariants.{Matched, Skipped, Gathering}
+use Rattle.genie_model.specs.State.{State, Region, Orphan, Process, Transfer, Device, Datagram}
 use Rattle.genie_model.specs.Regions.{extent_of, regions_of, regions_at, is_region, region_numbered, orphan_numbered, committed}
-use Rattle.genie_model.specs.Pending.{names, wired}
-use Rattle.genie_model.specs.Space.{is_move, is_named}
+use Rattle.genie_model.specs.Pending.{names, wired, is_posted, is_inward}
+use Rattle.genie_model.specs.Space.{is_move, is_named, tidy}
 use Rattle.genie_model.specs.Refusing.{frames_to_wire}
 
 -- the application's area ends at page 512, and the system's follows it up to page 1,024
@@ -69,6 +71,14 @@ NumbersDiffer s = AllPairs (λ (a b : ℕ). a ≢ b) (numbers s)
 abbrev pub OrphansAreNamed : State → Type 0
 OrphansAreNamed s = All (λ (o : Orphan). IsTrue (is_named s.transfers o)) s.orphans
 
+-- the places of each orphan rise, none of them twice
+abbrev pub OrphansAreInOrder : State → Type 0
+OrphansAreInOrder s = All (λ (o : Orphan). AllPairs (λ (a b : ℕ × ℕ). a.0 < b.0) o.bytes) s.orphans
+
+-- nothing is left of orphans but what pending weak transfers name and cover
+abbrev pub OrphansAreTidy : State → Type 0
+OrphansAreTidy s = tidy s ≡ s
+
 -- the orphan has a byte at place x
 abbrev pub has_place : ℕ → Orphan → Bool
 has_place x o = list_any (λ (e : ℕ × ℕ). e.0 == x) o.bytes
@@ -114,6 +124,27 @@ pub record HeldForOne (s : State) : Type 0 where
   pub held : All (λ (t : Transfer). MayName s t t.class t.region) s.transfers
   pub one : (k : ℕ) → IsTrue (list_any (moves_into k) s.transfers) → count_by (names k) s.transfers ≤ 1
 
+-- only inputs are posted
+abbrev pub PostedAreInputs : State → Type 0
+PostedAreInputs s = All (λ (t : Transfer). IsTrue (is_posted t.phase) → IsTrue (is_inward t.direction)) s.transfers
+
+-- the number was given to a call, and where that is pending it is an input
+abbrev pub IsInput : State → ℕ → Type 0
+IsInput s k = (k < s.next) × All (λ (t : Transfer). t.number ≡ k → IsTrue (is_inward t.direction)) s.transfers
+
+abbrev pub GoesToInput : State → Fate → Type 0
+GoesToInput s Skipped = ⊤
+GoesToInput s (Matched k) = IsInput s k
+GoesToInput s Gathering = ⊤
+
+-- the datagram that the device is receiving, if there is one and it was matched, was matched to an input
+abbrev pub ReceivesForInput : State → Option Device → Type 0
+ReceivesForInput s v = IfSome v (λ (d : Device). IfSome d.present (λ (g : Datagram). GoesToInput s g.fate))
+
+-- so it is in each device
+abbrev pub MatchedAreInputs : State → Type 0
+MatchedAreInputs s = All (ReceivesForInput s) s.devices
+
 -- all of this
 pub record IsOrderly (s : State) : Type 0 where
   pub config : Fits s.config
@@ -124,5 +155,9 @@ pub record IsOrderly (s : State) : Type 0 where
   pub transfers : NumbersRise s
   pub numbers : NumbersDiffer s
   pub orphans : OrphansAreNamed s
+  pub order : OrphansAreInOrder s
+  pub tidied : OrphansAreTidy s
   pub ranges : RangesLie s
   pub holds : HeldForOne s
+  pub posted : PostedAreInputs s
+  pub matched : MatchedAreInputs s

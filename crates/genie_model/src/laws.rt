@@ -1,7 +1,8 @@
 //! Laws of the flat machine.
 ghost use Rattle.std.specs.Prelude.{◌≡◌, length};
+ghost use Rattle.genie_model.specs.Integrity.{InputsKeepIntegrity};
 ghost use Rattle.genie_model.specs.Laws.{StepsGrow, PlainStepsShowNoFault, RefusalsChangeNothing, StepsKeepConfig, LevelsStepAlike, ThresholdsStepAlike, RunsAlike, RunsCount, Stays, RunsStayOrderly};
-ghost use Rattle.genie_model.specs.Orderly.{RegionsAreApart, WiredIsBounded, CommittedIsBounded, NumbersRise, NumbersDiffer, OrphansAreNamed, RangesLie, HeldForOne};
+ghost use Rattle.genie_model.specs.Orderly.{RegionsAreApart, WiredIsBounded, CommittedIsBounded, NumbersRise, NumbersDiffer, OrphansAreNamed, OrphansAreInOrder, OrphansAreTidy, RangesLie, HeldForOne, PostedAreInputs, MatchedAreInputs};
 ghost use Rattle.genie_model.specs.Rows.{WorkedRows};
 
 /// What a device has sent stays sent, and numbers of transfers rise by at most one in a step.
@@ -93,6 +94,18 @@ pub fn orphans_are_named()
     ensures { Stays OrphansAreNamed }
 {}
 
+/// The places of each orphan rise, none of them twice.
+#[tactic(auto, using(crate::proofs::Ordered::orphans_in_order))]
+pub fn orphans_in_order()
+    ensures { Stays OrphansAreInOrder }
+{}
+
+/// Nothing is left of orphans but what pending weak transfers name and cover.
+#[tactic(auto, using(crate::proofs::Tidied::orphans_tidy))]
+pub fn orphans_tidy()
+    ensures { Stays OrphansAreTidy }
+{}
+
 /// Every named range lies in the region or the orphan that it names.
 #[tactic(auto, using(crate::proofs::Ranges::ranges_lie))]
 pub fn ranges_lie()
@@ -104,9 +117,27 @@ pub fn held_for_one()
     ensures { Stays HeldForOne }
 {}
 
+/// Only inputs are posted.
+#[tactic(auto, using(crate::proofs::Receivers::posted_are_inputs))]
+pub fn posted_are_inputs()
+    ensures { Stays PostedAreInputs }
+{}
+
+/// The datagrams that devices are receiving were matched to inputs alone.
+#[tactic(auto, using(crate::proofs::Receivers::matched_are_inputs))]
+pub fn matched_are_inputs()
+    ensures { Stays MatchedAreInputs }
+{}
+
 /// Every state that a run reaches is orderly: it has all of this.
 pub fn runs_stay_orderly()
     ensures { RunsStayOrderly }
+{}
+
+/// A receive step changes a byte only where a pending weak input covers it; so a strong input changes none before it is done.
+#[tactic(auto, using(crate::proofs::Covered::inputs_keep_integrity))]
+pub fn inputs_keep_integrity()
+    ensures { InputsKeepIntegrity }
 {}
 
 /// The definitions compute the worked rows: for each class of semantics and each kind of device one script at least,

@@ -1,0 +1,107 @@
+-- Integrity: what a run sends is what the outputs' buffers had, and what it receives shows nowhere too soon.
+use Rattle.std.specs.Prelude.{◌≡◌, ℕ, ◌+◌, ◌<◌, ◌==◌, Bool, false, IsTrue, ◌&&◌, List, [], ◌∷◌, ◌++◌, length, map, get_or, All, Option, None, Some, ⊤, if◌then◌else◌}
+use Rattle.std.specs.List.{list_any, Any}
+use Rattle.genie_base.specs.Configs.{Config, Fits}
+use Rattle.genie_base.specs.Events.{is_whole, mark_of}
+use Rattle.genie_base.specs.Records.{header_bytes}
+use Rattle.genie_base.specs.Transfers.{class_of}
+use Rattle.genie_base.specs.declared.event.Event.{Event}
+use Rattle.genie_base.specs.declared.event.Event.TheVariants.{Output, Recv}
+use Rattle.genie_base.specs.declared.reply.Mark.{Mark}
+use Rattle.genie_base.specs.declared.reply.Reply.{Reply}
+use Rattle.genie_base.specs.declared.reply.Reply.TheVariants.{Id}
+use Rattle.genie_base.specs.declared.semantics.Class.{Class}
+use Rattle.genie_base.specs.declared.semantics.Class.TheVariants.{Copy, Share, Move, WeakMove}
+use Rattle.genie_model.specs.Flat.{sent_of}
+use Rattle.genie_model.specs.Orderly.{IsOrderly}
+use Rattle.genie_model.specs.Outputs.{number_of, place_reached}
+use Rattle.genie_model.specs.Pending.{is_inward, covers}
+use Rattle.genie_model.specs.Regions.{bytes_of, reach_of}
+use Rattle.genie_model.specs.Space.{bytes_reached}
+use Rattle.genie_model.specs.State.{State, Transfer, boot}
+use Rattle.genie_model.specs.Step.{step, Follows}
+
+-- an output that was accepted: its header, the bytes of its range at the call, where the range lies, and the states from
+-- the call on
+pub record Accepted : Type 0 where
+  pub class : Class
+  pub header : List ℕ
+  pub len : ℕ
+  pub bytes : List ℕ
+  pub region : Option ℕ
+  pub offset : ℕ
+  pub later : List State
+
+-- the states of a run, from this one on
+abbrev pub states : State → List Event → List Reply → List State
+states s (e ∷ es) (r ∷ rs) = s ∷ states (step s e (mark_of r)).0 es rs
+states s es rs = s ∷ []
+
+-- the output of device d that this event is, where it was accepted
+abbrev pub accepted : ℕ → State → Event → Reply → List State → List Accepted
+accepted d s (Output p sem dev port flow a n) (Id k) later =
+    let reached = reach_of s p a n in
+    if dev == d then record {
+      class = class_of sem;
+      header = header_bytes port flow n;
+      len = n;
+      bytes = bytes_reached s reached a n;
+      region = number_of reached;
+      offset = place_reached s reached a;
+      later = later;
+    } ∷ [] else []
+accepted d s e r later = []
+
+-- the accepted outputs of a device, in the order of their numbers
+abbrev pub outputs : ℕ → State → List Event → List Reply → List Accepted
+outputs d s (e ∷ es) (r ∷ rs) = accepted d s e r (states (step s e (mark_of r)).0 es rs) ++ outputs d (step s e (mark_of r)).0 es rs
+outputs d s es rs = []
+
+-- this byte stood there
+abbrev pub Stood : Option ℕ → ℕ → ℕ → State → Type 0
+Stood None x b s = ⊥
+Stood (Some k) x b s = bytes_of s k x 1 ≡ b ∷ []
+
+-- each byte stood in its place in a state from the call on
+pub record WasThere (o : Accepted) (payload : List ℕ) : Type 0 where
+  pub whole : length payload ≡ o.len
+  pub bytes : (j : ℕ) → j < o.len → Any (Stood o.region (o.offset + j) (get_or payload j 0)) o.later
+
+-- the payload of a strong output is the bytes of its call, and that of a weak one bytes of later states
+abbrev pub HasPayload : Class → Accepted → List ℕ → Type 0
+HasPayload Copy o payload = payload ≡ o.bytes
+HasPayload Share o payload = WasThere o payload
+HasPayload Move o payload = payload ≡ o.bytes
+HasPayload WeakMove o payload = WasThere o payload
+
+abbrev pub IsPayload : Accepted → List ℕ → Type 0
+IsPayload o payload = HasPayload o.class o payload
+
+abbrev pub ArePayloads : List Accepted → List (List ℕ) → Type 0
+ArePayloads [] [] = ⊤
+ArePayloads (o ∷ os) (p ∷ ps) = IsPayload o p × ArePayloads os ps
+ArePayloads os ps = ⊥
+
+-- the records of these outputs with these payloads, one after the other
+abbrev pub records : List Accepted → List (List ℕ) → List ℕ
+records (o ∷ os) (p ∷ ps) = o.header ++ p ++ records os ps
+records os ps = []
+
+-- What a device has sent is a front of the records of its accepted outputs, in the order of their calls.
+pub record SendsRecords (d : ℕ) (os : List Accepted) (last : State) : Type 0 where
+  pub payloads : List (List ℕ)
+  pub are : ArePayloads os payloads
+  pub left : List ℕ
+  pub front : records os payloads ≡ sent_of last d ++ left
+
+-- So it is in every run; and of a run that is cut anywhere, so that a byte is one from the call up to the step that sent it.
+abbrev pub OutputsKeepIntegrity : Type 0
+OutputsKeepIntegrity = (c : Config) (inputs : ℕ → List ℕ) (es : List Event) (rs : List Reply) (last : State) (d : ℕ) → Fits c → All (λ (e : Event). IsTrue (is_whole e)) es → Follows (boot c inputs) es rs last → SendsRecords d (outputs d (boot c inputs) es rs) last
+
+-- a weak input covers place x of region or orphan k
+abbrev pub is_under_input : ℕ → ℕ → Transfer → Bool
+is_under_input k x t = is_inward t.direction && covers k x t
+
+-- A receive step changes a byte only where a pending weak input covers it; so a strong input changes none before it is done.
+abbrev pub InputsKeepIntegrity : Type 0
+InputsKeepIntegrity = (s : State) (d n : ℕ) (m : Mark) (k x : ℕ) → IsOrderly s → list_any (is_under_input k x) s.transfers ≡ false → bytes_of (step s (Recv d n) m).0 k x 1 ≡ bytes_of s k x 1
