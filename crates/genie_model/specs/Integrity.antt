@@ -1,5 +1,5 @@
 -- Integrity: what a run sends is what the outputs' buffers had, and what it receives shows nowhere too soon.
-use Rattle.std.specs.Prelude.{◌≡◌, ℕ, ◌+◌, ◌<◌, ◌==◌, Bool, false, IsTrue, ◌&&◌, List, [], ◌∷◌, ◌++◌, length, map, get_or, All, Option, None, Some, ⊤, if◌then◌else◌}
+use Rattle.std.specs.Prelude.{◌≡◌, ℕ, ◌+◌, ◌<◌, ◌==◌, Bool, false, IsTrue, ◌&&◌, List, [], ◌∷◌, ◌++◌, length, get_or, All, Option, None, Some, ⊤, if◌then◌else◌}
 use Rattle.std.specs.List.{list_any, Any}
 use Rattle.genie_base.specs.Configs.{Config, Fits}
 use Rattle.genie_base.specs.Events.{is_whole, mark_of}
