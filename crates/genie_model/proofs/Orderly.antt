@@ -39,7 +39,7 @@ boot_is_orderly c inputs fits = record {
   holds = record { held = λ k d l. absurd (omega arith); one = λ k named. omega arith };
 }
 
-step_is_orderly : (s : State) (e : Event) (m : Mark) → IsTrue (is_whole e) → IsOrderly s → IsOrderly (step s e m).0
+pub step_is_orderly : (s : State) (e : Event) (m : Mark) → IsTrue (is_whole e) → IsOrderly s → IsOrderly (step s e m).0
 step_is_orderly s e m whole o =
     let same = steps_keep_config s e m in
     record {
