@@ -1,6 +1,7 @@
 pub mod Accepted
 pub mod Accepting
 pub mod Adding
+pub mod Advancing
 pub mod Alike
 pub mod Apart
 pub mod Arriving
@@ -26,6 +27,7 @@ pub mod Keeping
 pub mod Landing
 pub mod Leaving
 pub mod Levels
+pub mod Meeting
 pub mod Named
 pub mod Naming
 pub mod Numbered
@@ -34,13 +36,18 @@ pub mod Ordered
 pub mod Orderly
 pub mod Orphaned
 pub mod Placing
+pub mod Queueing
+pub mod Queues
 pub mod Quiet
 pub mod Ranges
+pub mod Reading
 pub mod Receivers
+pub mod Records
 pub mod Refusals
 pub mod Remaining
 pub mod Results
 pub mod Rows
+pub mod Sent
 pub mod Serving
 pub mod Shrinking
 pub mod Spacing
@@ -49,5 +56,6 @@ pub mod Staying
 pub mod Stepping
 pub mod Thresholds
 pub mod Tidied
+pub mod Turning
 pub mod Unused
 pub mod Wiring

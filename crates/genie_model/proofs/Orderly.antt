@@ -48,7 +48,7 @@ boot_is_orderly c inputs fits = record {
   matched = boot_matched (boot c inputs) inputs 0 c.devices;
 }
 
-step_is_orderly : (s : State) (e : Event) (m : Mark) → IsTrue (is_whole e) → IsOrderly s → IsOrderly (step s e m).0
+pub step_is_orderly : (s : State) (e : Event) (m : Mark) → IsTrue (is_whole e) → IsOrderly s → IsOrderly (step s e m).0
 step_is_orderly s e m whole o =
     let same = steps_keep_config s e m in
     record {

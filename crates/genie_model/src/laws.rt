@@ -1,6 +1,6 @@
 //! Laws of the flat machine.
 ghost use Rattle.std.specs.Prelude.{◌≡◌, length};
-ghost use Rattle.genie_model.specs.Integrity.{InputsKeepIntegrity};
+ghost use Rattle.genie_model.specs.Integrity.{OutputsKeepIntegrity, InputsKeepIntegrity};
 ghost use Rattle.genie_model.specs.Laws.{StepsGrow, PlainStepsShowNoFault, RefusalsChangeNothing, StepsKeepConfig, LevelsStepAlike, ThresholdsStepAlike, RunsAlike, RunsCount, Stays, RunsStayOrderly};
 ghost use Rattle.genie_model.specs.Orderly.{RegionsAreApart, WiredIsBounded, CommittedIsBounded, NumbersRise, NumbersDiffer, OrphansAreNamed, OrphansAreInOrder, OrphansAreTidy, RangesLie, HeldForOne, PostedAreInputs, MatchedAreInputs};
 ghost use Rattle.genie_model.specs.Rows.{WorkedRows};
@@ -132,6 +132,12 @@ pub fn matched_are_inputs()
 /// Every state that a run reaches is orderly: it has all of this.
 pub fn runs_stay_orderly()
     ensures { RunsStayOrderly }
+{}
+
+/// What a device has sent is a front of the records of its accepted outputs; a strong one's payload is the bytes of its
+/// call, and each byte of a weak one's stood in its place in a state from the call on.
+pub fn outputs_keep_integrity()
+    ensures { OutputsKeepIntegrity }
 {}
 
 /// A receive step changes a byte only where a pending weak input covers it; so a strong input changes none before it is done.
