@@ -4,6 +4,7 @@ pub mod Adding
 pub mod Alike
 pub mod Apart
 pub mod Arriving
+pub mod Behind
 pub mod Beside
 pub mod Booting
 pub mod Calling
@@ -22,6 +23,7 @@ pub mod Growing
 pub mod Having
 pub mod Holding
 pub mod InPlace
+pub mod Inside
 pub mod Keeping
 pub mod Landing
 pub mod Leaving
