@@ -5,6 +5,7 @@ pub mod Advancing
 pub mod Alike
 pub mod Apart
 pub mod Arriving
+pub mod Behind
 pub mod Beside
 pub mod Booting
 pub mod Calling
@@ -23,6 +24,7 @@ pub mod Growing
 pub mod Having
 pub mod Holding
 pub mod InPlace
+pub mod Inside
 pub mod Keeping
 pub mod Landing
 pub mod Leaving

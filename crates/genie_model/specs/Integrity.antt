@@ -1,8 +1,10 @@
 -- Integrity: what a run sends is what the outputs' buffers had, and what it receives shows nowhere too soon.
-use Rattle.std.specs.Prelude.{◌≡◌, ℕ, ◌+◌, ◌<◌, ◌==◌, Bool, false, IsTrue, ◌&&◌, List, [], ◌∷◌, ◌++◌, length, get_or, All, Option, None, Some, ⊤, if◌then◌else◌}
-use Rattle.std.specs.List.{list_any, Any}
+use Rattle.std.specs.Prelude.{◌≡◌, ◌⊎◌, ℕ, ◌+◌, ◌-◌, ◌<◌, ◌==◌, Bool, IsTrue, ◌&&◌, List, [], ◌∷◌, ◌++◌, length, get_or, All, Option, None, Some, ⊤, if◌then◌else◌}
+use Rattle.std.specs.List.{Any}
+use Rattle.genie_base.specs.Bytes.{part}
 use Rattle.genie_base.specs.Configs.{Config, Fits}
 use Rattle.genie_base.specs.Events.{is_whole, mark_of}
+use Rattle.genie_base.specs.Headers.{header_taken}
 use Rattle.genie_base.specs.Records.{header_bytes}
 use Rattle.genie_base.specs.Transfers.{class_of}
 use Rattle.genie_base.specs.declared.event.Event.{Event}
@@ -15,11 +17,12 @@ use Rattle.genie_base.specs.declared.semantics.Class.TheVariants.{Copy, Share, M
 use Rattle.genie_model.specs.Flat.{sent_of}
 use Rattle.genie_model.specs.Orderly.{IsOrderly}
 use Rattle.genie_model.specs.Outputs.{number_of, place_reached}
-use Rattle.genie_model.specs.Pending.{is_inward, covers}
+use Rattle.genie_model.specs.Pending.{is_inward, covers, pending}
 use Rattle.genie_model.specs.Regions.{bytes_of, reach_of}
 use Rattle.genie_model.specs.Space.{bytes_reached}
-use Rattle.genie_model.specs.State.{State, Transfer, boot}
+use Rattle.genie_model.specs.State.{State, Transfer, Device, Datagram, boot}
 use Rattle.genie_model.specs.Step.{step, Follows}
+use Rattle.genie_model.specs.Tables.{entry}
 
 -- an output that was accepted: its header, the bytes of its range at the call, where the range lies, and the states from
 -- the call on
@@ -102,6 +105,26 @@ OutputsKeepIntegrity = (c : Config) (inputs : ℕ → List ℕ) (es : List Event
 abbrev pub is_under_input : ℕ → ℕ → Transfer → Bool
 is_under_input k x t = is_inward t.direction && covers k x t
 
--- A receive step changes a byte only where a pending weak input covers it; so a strong input changes none before it is done.
+-- which byte of what is left of a device's input is byte j of the payload that it is receiving, or is about to receive
+abbrev pub payload_place : Device → Option Datagram → ℕ → ℕ
+payload_place v None j = header_taken (length v.rest) v.header v.rest + j
+payload_place v (Some g) j = j - g.moved
+
+-- byte j of that payload, where it is there
+abbrev pub payload_byte : Option Device → ℕ → List ℕ
+payload_byte None j = []
+payload_byte (Some v) j = part (payload_place v v.present j) 1 v.rest
+
+-- What a receive step of device d stored at place x of region or orphan k: the payload's byte for that place of the buffer
+-- of a pending weak input.
+pub record Landed (s : State) (d k x : ℕ) (byte : List ℕ) : Type 0 where
+  pub input : Transfer
+  pub pending : pending s input.number ≡ Some input
+  pub covers : IsTrue (is_under_input k x input)
+  pub payload : byte ≡ payload_byte (entry s.devices d) (x - input.offset)
+
+-- A receive step leaves each byte of regions and orphans, or stores the payload's byte where a pending weak input covers it.
+-- So a strong input changes none before it is done.
 abbrev pub InputsKeepIntegrity : Type 0
-InputsKeepIntegrity = (s : State) (d n : ℕ) (m : Mark) (k x : ℕ) → IsOrderly s → list_any (is_under_input k x) s.transfers ≡ false → bytes_of (step s (Recv d n) m).0 k x 1 ≡ bytes_of s k x 1
+InputsKeepIntegrity = (s : State) (d n : ℕ) (m : Mark) (k x : ℕ) → IsOrderly s
+    → (bytes_of (step s (Recv d n) m).0 k x 1 ≡ bytes_of s k x 1) ⊎ Landed s d k x (bytes_of (step s (Recv d n) m).0 k x 1)

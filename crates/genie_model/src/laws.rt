@@ -140,7 +140,8 @@ pub fn outputs_keep_integrity()
     ensures { OutputsKeepIntegrity }
 {}
 
-/// A receive step changes a byte only where a pending weak input covers it; so a strong input changes none before it is done.
+/// A receive step leaves each byte, or stores the payload's byte where a pending weak input covers it; so a strong input
+/// changes none before it is done.
 #[tactic(auto, using(crate::proofs::Covered::inputs_keep_integrity))]
 pub fn inputs_keep_integrity()
     ensures { InputsKeepIntegrity }
