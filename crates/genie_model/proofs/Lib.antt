@@ -3,6 +3,7 @@ pub mod Accepting
 pub mod Adding
 pub mod Advancing
 pub mod Alike
+pub mod Among
 pub mod Apart
 pub mod Arriving
 pub mod Beside
@@ -25,6 +26,7 @@ pub mod Holding
 pub mod InPlace
 pub mod Keeping
 pub mod Landing
+pub mod Lasting
 pub mod Leaving
 pub mod Levels
 pub mod Meeting

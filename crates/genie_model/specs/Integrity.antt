@@ -1,12 +1,12 @@
 -- Integrity: what a run sends is what the outputs' buffers had, and what it receives shows nowhere too soon.
-use Rattle.std.specs.Prelude.{◌≡◌, ℕ, ◌+◌, ◌<◌, ◌==◌, Bool, false, IsTrue, ◌&&◌, List, [], ◌∷◌, ◌++◌, length, get_or, All, Option, None, Some, ⊤, if◌then◌else◌}
+use Rattle.std.specs.Prelude.{◌≡◌, ℕ, ◌+◌, ◌<◌, ◌==◌, Bool, true, false, IsTrue, ◌&&◌, List, [], ◌∷◌, ◌++◌, length, get_or, All, Option, None, Some, ⊤, if◌then◌else◌}
 use Rattle.std.specs.List.{list_any, Any}
 use Rattle.genie_base.specs.Configs.{Config, Fits}
 use Rattle.genie_base.specs.Events.{is_whole, mark_of}
 use Rattle.genie_base.specs.Records.{header_bytes}
 use Rattle.genie_base.specs.Transfers.{class_of}
 use Rattle.genie_base.specs.declared.event.Event.{Event}
-use Rattle.genie_base.specs.declared.event.Event.TheVariants.{Output, Recv}
+use Rattle.genie_base.specs.declared.event.Event.TheVariants.{Output, Write, Recv, Finish}
 use Rattle.genie_base.specs.declared.reply.Mark.{Mark}
 use Rattle.genie_base.specs.declared.reply.Reply.{Reply}
 use Rattle.genie_base.specs.declared.reply.Reply.TheVariants.{Id}
@@ -105,3 +105,15 @@ is_under_input k x t = is_inward t.direction && covers k x t
 -- A receive step changes a byte only where a pending weak input covers it; so a strong input changes none before it is done.
 abbrev pub InputsKeepIntegrity : Type 0
 InputsKeepIntegrity = (s : State) (d n : ℕ) (m : Mark) (k x : ℕ) → IsOrderly s → list_any (is_under_input k x) s.transfers ≡ false → bytes_of (step s (Recv d n) m).0 k x 1 ≡ bytes_of s k x 1
+
+-- the events that store bytes: a write, the end of a transfer, and a receive step
+abbrev pub may_store : Event → Bool
+may_store (Write p a bytes) = true
+may_store (Recv d n) = true
+may_store (Finish k) = true
+may_store _ = false
+
+-- Every other event leaves a byte that a pending weak transfer covers: its region may go, but the byte stays.
+abbrev pub CoveredBytesStay : Type 0
+CoveredBytesStay = (s : State) (e : Event) (m : Mark) (k x : ℕ) → IsTrue (is_whole e) → IsOrderly s → may_store e ≡ false
+    → IsTrue (list_any (covers k x) s.transfers) → IsTrue (list_any (covers k x) (step s e m).0.transfers) → bytes_of (step s e m).0 k x 1 ≡ bytes_of s k x 1
