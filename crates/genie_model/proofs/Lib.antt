@@ -3,6 +3,7 @@ pub mod Accepting
 pub mod Adding
 pub mod Advancing
 pub mod Alike
+pub mod Among
 pub mod Apart
 pub mod Arriving
 pub mod Behind
@@ -27,6 +28,7 @@ pub mod InPlace
 pub mod Inside
 pub mod Keeping
 pub mod Landing
+pub mod Lasting
 pub mod Leaving
 pub mod Levels
 pub mod Meeting

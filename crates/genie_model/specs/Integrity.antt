@@ -1,6 +1,6 @@
 -- Integrity: what a run sends is what the outputs' buffers had, and what it receives shows nowhere too soon.
-use Rattle.std.specs.Prelude.{◌≡◌, ◌⊎◌, ℕ, ◌+◌, ◌-◌, ◌<◌, ◌==◌, Bool, IsTrue, ◌&&◌, List, [], ◌∷◌, ◌++◌, length, get_or, All, Option, None, Some, ⊤, if◌then◌else◌}
-use Rattle.std.specs.List.{Any}
+use Rattle.std.specs.Prelude.{◌≡◌, ◌⊎◌, ℕ, ◌+◌, ◌-◌, ◌<◌, ◌==◌, Bool, true, false, IsTrue, ◌&&◌, List, [], ◌∷◌, ◌++◌, length, get_or, All, Option, None, Some, ⊤, if◌then◌else◌}
+use Rattle.std.specs.List.{list_any, Any}
 use Rattle.genie_base.specs.Bytes.{part}
 use Rattle.genie_base.specs.Configs.{Config, Fits}
 use Rattle.genie_base.specs.Events.{is_whole, mark_of}
@@ -8,7 +8,7 @@ use Rattle.genie_base.specs.Headers.{header_taken}
 use Rattle.genie_base.specs.Records.{header_bytes}
 use Rattle.genie_base.specs.Transfers.{class_of}
 use Rattle.genie_base.specs.declared.event.Event.{Event}
-use Rattle.genie_base.specs.declared.event.Event.TheVariants.{Output, Recv}
+use Rattle.genie_base.specs.declared.event.Event.TheVariants.{Output, Write, Recv, Finish}
 use Rattle.genie_base.specs.declared.reply.Mark.{Mark}
 use Rattle.genie_base.specs.declared.reply.Reply.{Reply}
 use Rattle.genie_base.specs.declared.reply.Reply.TheVariants.{Id}
@@ -128,3 +128,15 @@ pub record Landed (s : State) (d k x : ℕ) (byte : List ℕ) : Type 0 where
 abbrev pub InputsKeepIntegrity : Type 0
 InputsKeepIntegrity = (s : State) (d n : ℕ) (m : Mark) (k x : ℕ) → IsOrderly s
     → (bytes_of (step s (Recv d n) m).0 k x 1 ≡ bytes_of s k x 1) ⊎ Landed s d k x (bytes_of (step s (Recv d n) m).0 k x 1)
+
+-- the events that store bytes: a write, the end of a transfer, and a receive step
+abbrev pub may_store : Event → Bool
+may_store (Write p a bytes) = true
+may_store (Recv d n) = true
+may_store (Finish k) = true
+may_store _ = false
+
+-- Every other event leaves a byte that a pending weak transfer covers: its region may go, but the byte stays.
+abbrev pub CoveredBytesStay : Type 0
+CoveredBytesStay = (s : State) (e : Event) (m : Mark) (k x : ℕ) → IsTrue (is_whole e) → IsOrderly s → may_store e ≡ false
+    → IsTrue (list_any (covers k x) s.transfers) → IsTrue (list_any (covers k x) (step s e m).0.transfers) → bytes_of (step s e m).0 k x 1 ≡ bytes_of s k x 1

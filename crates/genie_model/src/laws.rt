@@ -1,6 +1,6 @@
 //! Laws of the flat machine.
 ghost use Rattle.std.specs.Prelude.{◌≡◌, length};
-ghost use Rattle.genie_model.specs.Integrity.{OutputsKeepIntegrity, InputsKeepIntegrity};
+ghost use Rattle.genie_model.specs.Integrity.{OutputsKeepIntegrity, InputsKeepIntegrity, CoveredBytesStay};
 ghost use Rattle.genie_model.specs.Laws.{StepsGrow, PlainStepsShowNoFault, RefusalsChangeNothing, StepsKeepConfig, LevelsStepAlike, ThresholdsStepAlike, RunsAlike, RunsCount, Stays, RunsStayOrderly};
 ghost use Rattle.genie_model.specs.Orderly.{RegionsAreApart, WiredIsBounded, CommittedIsBounded, NumbersRise, NumbersDiffer, OrphansAreNamed, OrphansAreInOrder, OrphansAreTidy, RangesLie, HeldForOne, PostedAreInputs, MatchedAreInputs};
 ghost use Rattle.genie_model.specs.Rows.{WorkedRows};
@@ -145,6 +145,13 @@ pub fn outputs_keep_integrity()
 #[tactic(auto, using(crate::proofs::Covered::inputs_keep_integrity))]
 pub fn inputs_keep_integrity()
     ensures { InputsKeepIntegrity }
+{}
+
+/// Every event but a write, a receive step and `done` leaves each byte that a pending weak transfer covers before and
+/// after it.
+#[tactic(auto, using(crate::proofs::Lasting::covered_bytes_stay))]
+pub fn covered_bytes_stay()
+    ensures { CoveredBytesStay }
 {}
 
 /// The definitions compute the worked rows: for each class of semantics and each kind of device one script at least,
