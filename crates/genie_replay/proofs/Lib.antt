@@ -4,6 +4,7 @@ pub mod Exits
 pub mod Filing
 pub mod Gathering
 pub mod Opening
+pub mod Reached
 pub mod Reading
 pub mod Remaining
 pub mod Running

@@ -6,6 +6,7 @@ pub mod Inputs
 pub mod Lines
 pub mod Outcome
 pub mod Plays
+pub mod Reached
 pub mod Serving
 pub mod Statuses
 pub mod Write

@@ -1,7 +1,9 @@
 //! Laws of runs.
 ghost use Rattle.genie_replay.specs.Alike.{ScriptsRunAlike};
+ghost use Rattle.genie_replay.specs.Reached.{RunsAreSound};
 
 use genie_model::laws;
+use genie_script::laws::scripts_keep_limits;
 
 /// Two scripts that differ in nothing but the thresholds, or in whether their calls are emulated, give the same replies
 /// and the same bytes of each device, where the inputs are the same and no fault comes.
@@ -9,4 +11,13 @@ pub fn scripts_run_alike()
     ensures { ScriptsRunAlike }
 {
     laws::runs_alike();
+}
+
+/// Every state that a run reaches is orderly, and its outputs keep integrity.
+pub fn runs_are_sound()
+    ensures { RunsAreSound }
+{
+    laws::runs_stay_orderly();
+    laws::outputs_keep_integrity();
+    scripts_keep_limits();
 }

@@ -13,7 +13,7 @@ use Rattle.genie_script.specs.declared.line.DeviceLine.{DeviceLine}
 use Rattle.genie_script.specs.Judge.{IsPart, Part, boot_config, boot_fits, config_with, has_place, is_bounded, is_unused, keeps_limits, line_config, may_receive, may_send, part_of, with_device}
 
 -- a device that keeps its limits leaves all limits kept
-limits_fit : (c : Config) (d : DeviceLine) → Fits c → IsTrue (keeps_limits c d) → Fits (config_with c d)
+pub limits_fit : (c : Config) (d : DeviceLine) → Fits c → IsTrue (keeps_limits c d) → Fits (config_with c d)
 limits_fit c d f t =
     let depth : (1 ≤ d.depth) × (d.depth ≤ most_depth d.kind) = grind (arith, nat_tests, t) in
     let offset : d.offset < offset_end d.kind c.page = grind (arith, nat_tests, t) in
@@ -54,7 +54,7 @@ pub limits_told : (c : Config) (d : DeviceLine) (fits : Bool) → Fits c → has
 limits_told c d fits f place told = same_tests fits (keeps_limits c d) (λ t. fit_limits c d f place (told.0 t)) (λ t. told.1 (limits_fit c d f t))
 
 -- a boot line within its limits has a configuration within its limits
-boot_fit : (b : BootLine) → boot_fits b ≡ true → Fits (boot_config b)
+pub boot_fit : (b : BootLine) → boot_fits b ≡ true → Fits (boot_config b)
 boot_fit b t = record {
   page = grind (arith, nat_tests, t);
   frames_low = grind (arith, nat_tests, t);

@@ -4,6 +4,7 @@ pub mod Digits
 pub mod Each
 pub mod Grammar
 pub mod Joined
+pub mod Limits
 pub mod Pairs
 pub mod Parts
 pub mod Ports

@@ -1,6 +1,7 @@
 pub mod Hex
 pub mod Judge
 pub mod Laws
+pub mod Limits
 pub mod Lines
 pub mod Names
 pub mod Numbers

@@ -6,7 +6,7 @@ mod fields;
 mod hex;
 pub mod judge;
 mod keyword;
-mod laws;
+pub mod laws;
 pub mod line;
 pub mod line_buffer;
 mod line_text;
