@@ -22,7 +22,7 @@ size_least : (a b : ℕ) → 8 ≤ header_size a b
 size_least a b = cond_both ((a == 71) && (b == 69)) 12 8 (λ n. 8 ≤ n) (λ _. omega arith) (λ _. omega arith)
 
 -- a step that makes the header whole takes as many bytes of it as one with a budget for all that is left
-whole_taken : (n : ℕ) (gathered rest : List ℕ) → is_whole_header (gathered ++ take (header_taken n gathered rest) rest) ≡ true → header_taken (length rest) gathered rest ≡ header_taken n gathered rest
+pub whole_taken : (n : ℕ) (gathered rest : List ℕ) → is_whole_header (gathered ++ take (header_taken n gathered rest) rest) ≡ true → header_taken (length rest) gathered rest ≡ header_taken n gathered rest
 whole_taken n gathered rest whole =
     let h : ℕ = header_taken n gathered rest in
     let header : List ℕ = gathered ++ take h rest in

@@ -1,7 +1,7 @@
 -- Every state that a run reaches is orderly.
-use Rattle.std.proofs.Common.{ℕ, ◌+◌, List, [], ◌∷◌, refl, sym, arith}
+use Rattle.std.proofs.Common.{ℕ, zero, suc, ◌+◌, List, [], ◌∷◌, refl, sym, arith}
 use Rattle.std.specs.Prelude.{Option, Some, None, IsTrue, All}
-use Rattle.std.proofs.lemmas.List.Elements.{All-cons, All-head, All-tail, All-replicate}
+use Rattle.std.proofs.lemmas.List.Elements.{All-head, All-tail, All-replicate}
 use Rattle.genie_base.specs.Configs.{Config, DeviceConfig, Fits}
 use Rattle.genie_base.specs.Events.{is_whole, mark_of}
 use Rattle.genie_base.specs.declared.event.Event.{Event}
@@ -10,7 +10,8 @@ use Rattle.genie_base.specs.declared.reply.Reply.{Reply}
 use Rattle.genie_model.specs.Laws.{RunsStayOrderly}
 use Rattle.genie_model.specs.Orderly.{IsOrderly, AreApart, ReceivesForInput}
 use Rattle.genie_model.specs.Regions.{regions_of}
-use Rattle.genie_model.specs.State.{State, Process, boot, boot_device, boot_devices}
+use Rattle.genie_model.specs.State.{State, Process, boot, boot_devices}
+use Rattle.genie_model.specs.Tables.{entry}
 use Rattle.genie_model.specs.Step.{step, Follows}
 use Rattle.genie_model.proofs.Distinct.{numbers_differ}
 use Rattle.genie_model.proofs.Holding.{held_for_one}
@@ -25,10 +26,11 @@ use Rattle.genie_model.proofs.Tidied.{orphans_tidy}
 use Rattle.genie_model.proofs.Wiring.{wired_is_bounded}
 
 -- no device is receiving
-boot_matched : (s : State) (inputs : ℕ → List ℕ) (d : ℕ) (configs : List (Option DeviceConfig)) → All (ReceivesForInput s) (boot_devices inputs d configs)
-boot_matched s inputs d [] = λ k x l. absurd (omega arith)
-boot_matched s inputs d (None ∷ configs) = All-cons (ReceivesForInput s) None (boot_devices inputs (d + 1) configs) tt (boot_matched s inputs (d + 1) configs)
-boot_matched s inputs d (Some c ∷ configs) = All-cons (ReceivesForInput s) (boot_device inputs d (Some c)) (boot_devices inputs (d + 1) configs) tt (boot_matched s inputs (d + 1) configs)
+boot_matched : (s : State) (inputs : ℕ → List ℕ) (k : ℕ) (configs : List (Option DeviceConfig)) (d n : ℕ) → ReceivesForInput s d (entry (boot_devices inputs k configs) n)
+boot_matched s inputs k [] d n = tt
+boot_matched s inputs k (None ∷ configs) d zero = tt
+boot_matched s inputs k (Some c ∷ configs) d zero = tt
+boot_matched s inputs k (c ∷ configs) d (suc n) = boot_matched s inputs (k + 1) configs d n
 
 pub boot_is_orderly : (c : Config) (inputs : ℕ → List ℕ) → Fits c → IsOrderly (boot c inputs)
 boot_is_orderly c inputs fits = record {
@@ -45,7 +47,7 @@ boot_is_orderly c inputs fits = record {
   ranges = λ k d l. absurd (omega arith);
   holds = record { held = λ k d l. absurd (omega arith); one = λ k named. omega arith };
   posted = λ k d l. absurd (omega arith);
-  matched = boot_matched (boot c inputs) inputs 0 c.devices;
+  matched = λ d. boot_matched (boot c inputs) inputs 0 c.devices d d;
 }
 
 pub step_is_orderly : (s : State) (e : Event) (m : Mark) → IsTrue (is_whole e) → IsOrderly s → IsOrderly (step s e m).0

@@ -2,7 +2,7 @@
 use Rattle.std.proofs.Common.{◌≡◌, ℕ, ◌+◌, ◌≤◌, Bool, true, List, [], ◌∷◌, map, filter, All, refl, sym, subst, true≢false, arith}
 use Rattle.std.specs.Prelude.{Option, Some, None, IfSome, not, ◌==◌, if◌then◌else◌}
 use Rattle.std.proofs.lemmas.Bool.{cond_both}
-use Rattle.std.proofs.lemmas.List.Elements.{All-map, All-filter, All-push, All-set, All-weaker}
+use Rattle.std.proofs.lemmas.List.Elements.{All-map, All-filter, All-push, All-weaker}
 use Rattle.genie_base.specs.Posted.{Address}
 use Rattle.genie_base.specs.Transfers.{class_of}
 use Rattle.genie_base.specs.declared.event.Event.{Event}
@@ -15,7 +15,7 @@ use Rattle.genie_model.specs.declared.datagram.Fate.{Fate}
 use Rattle.genie_model.specs.declared.datagram.Fate.TheVariants.{Matched, Skipped, Gathering}
 use Rattle.genie_model.specs.declared.phase.Phase.TheVariants.{Ready}
 use Rattle.genie_model.specs.Laws.{Stays}
-use Rattle.genie_model.specs.Orderly.{PostedAreInputs, IsInput, GoesToInput, ReceivesForInput, MatchedAreInputs, IsOrderly}
+use Rattle.genie_model.specs.Orderly.{PostedAreInputs, IsInput, GoesToInput, IsUnderWay, ReceivesForInput, MatchedAreInputs, IsOrderly}
 use Rattle.genie_model.specs.State.{State, Region, Transfer, Device, Datagram}
 use Rattle.genie_model.specs.Tables.{entry}
 use Rattle.genie_model.specs.Regions.{regions_at, reach_of, write_reach_of, put}
@@ -28,37 +28,35 @@ use Rattle.genie_model.specs.Receiving.{recv}
 use Rattle.genie_model.specs.Ending.{without_transfer, region_of, finish_copy, finish_share, finish_move, finish_weak_move, finish_input, finish_owned, finish_for, finish_found, after_landing, after_cancel, cancel_found}
 use Rattle.genie_model.specs.Step.{accept, perform}
 use Rattle.genie_model.proofs.Arriving.{choice}
-use Rattle.genie_model.proofs.Covered.{IsKnown, received, entry_has}
+use Rattle.genie_model.proofs.Covered.{IsKnown, received}
+use Rattle.genie_model.proofs.Having.{entry_set}
 use Rattle.genie_model.proofs.Naming.{all_change, all_without}
 use Rattle.genie_model.proofs.Stepping.{step_so}
 
 -- a transfer is an input where it is posted, or where a device may receive for it
 record IsOld (s : State) (t : Transfer) : Type 0 where
   posted : is_posted t.phase ≡ true → is_inward t.direction ≡ true
-  input : IsInput s t.number → is_inward t.direction ≡ true
+  input : (d : ℕ) → IsInput s d t.number → (is_inward t.direction ≡ true) × (t.device ≡ d)
 
 -- so are all transfers of state t, and its devices receive for inputs of state s alone
 abbrev Lasts : State → State → Type 0
-Lasts s t = All (IsOld s) t.transfers × All (ReceivesForInput s) t.devices × (s.next ≤ t.next)
+Lasts s t = All (IsOld s) t.transfers × ((d : ℕ) → ReceivesForInput s d (entry t.devices d)) × (s.next ≤ t.next)
 
-later_input : (s t : State) (k : ℕ) → Lasts s t → IsInput s k → IsInput t k
-later_input s t k h is = (omega (arith, is.0, h.2), λ i d lt same. (h.0 i d lt).input (subst (IsInput s) (sym same) is))
+later_fate : (s t : State) (d : ℕ) (fate : Fate) → Lasts s t → GoesToInput s d fate → GoesToInput t d fate
+later_fate s t d Skipped h goes = tt
+later_fate s t d (Matched k) h goes = (omega (arith, goes.0, h.2), λ i e lt same. (h.0 i e lt).input d (subst (IsInput s d) (sym same) goes))
+later_fate s t d Gathering h goes = tt
 
-later_fate : (s t : State) (fate : Fate) → Lasts s t → GoesToInput s fate → GoesToInput t fate
-later_fate s t Skipped h goes = tt
-later_fate s t (Matched k) h goes = later_input s t k h goes
-later_fate s t Gathering h goes = tt
-
-later_datagram : (s t : State) (o : Option Datagram) → Lasts s t → IfSome o (λ (g : Datagram). GoesToInput s g.fate) → IfSome o (λ (g : Datagram). GoesToInput t g.fate)
-later_datagram s t None h goes = tt
-later_datagram s t (Some g) h goes = later_fate s t g.fate h goes
-
-later_device : (s t : State) (v : Option Device) → Lasts s t → ReceivesForInput s v → ReceivesForInput t v
-later_device s t None h goes = tt
-later_device s t (Some v) h goes = later_datagram s t v.present h goes
+later_device : (s t : State) (d : ℕ) (v : Option Device) → Lasts s t → ReceivesForInput s d v → ReceivesForInput t d v
+later_device s t d None h goes = tt
+later_device s t d (Some v) h goes = later v.present goes
+  where
+    later : (o : Option Datagram) → IfSome o (IsUnderWay s d) → IfSome o (IsUnderWay t d)
+    later None under = tt
+    later (Some g) under = record { left = under.left; input = later_fate s t d g.fate h under.input }
 
 begins : (s : State) → IsOrderly s → Lasts s s
-begins s o = (λ i d lt. record { posted = o.posted i d lt; input = λ is. is.1 i d lt refl }, o.matched, omega arith)
+begins s o = (λ i d lt. record { posted = o.posted i d lt; input = λ e is. is.1 i d lt refl }, o.matched, omega arith)
 
 module _ (s : State) where
   after_copies : (t : State) (q : ℕ) (regions : List Region) → Lasts s t → Lasts s (add_copies t q regions)
@@ -98,15 +96,15 @@ module _ (s : State) where
   after_buffer t p WeakMove n u h = after_weak t p n u (reusable t p (pages_for t n)) h
   after_buffer t p class n u h = h
 
-  posted_inward : (p : ℕ) (class : Class) (to : Address) (a : Option ℕ) (n : ℕ) → is_inward (posted s p class to a n).direction ≡ true
-  posted_inward p Copy to a n = refl
-  posted_inward p Share to a n = refl
-  posted_inward p Move to a n = refl
-  posted_inward p WeakMove to a n = refl
+  posted_inward : (p : ℕ) (class : Class) (to : Address) (a : Option ℕ) (n : ℕ) → (is_inward (posted s p class to a n).direction ≡ true) × ((posted s p class to a n).number ≡ s.next)
+  posted_inward p Copy to a n = (refl, refl)
+  posted_inward p Share to a n = (refl, refl)
+  posted_inward p Move to a n = (refl, refl)
+  posted_inward p WeakMove to a n = (refl, refl)
 
-  sent_device : (bytes : List ℕ) (v : Option Device) → ReceivesForInput s v → ReceivesForInput s (change_device (with_sent bytes) v)
-  sent_device bytes None goes = tt
-  sent_device bytes (Some v) goes = goes
+  sent_device : (d : ℕ) (bytes : List ℕ) (v : Option Device) → ReceivesForInput s d v → ReceivesForInput s d (change_device (with_sent bytes) v)
+  sent_device d bytes None goes = tt
+  sent_device d bytes (Some v) goes = goes
 
   after_send : (t : State) (d n : ℕ) (o : Option Transfer) → Lasts s t → Lasts s (send_next t d n o).0
   after_send t d n None h = h
@@ -116,7 +114,7 @@ module _ (s : State) where
       (all_change (IsOld s) (waits_for d) _ (λ v old. record { posted = old.posted; input = old.input }) t.transfers h.0, h.1, h.2) (
         all_change (IsOld s) (waits_for d) (after_sending (send_count n u)) (λ v old. cond_both (send_count n u == unsent v) (record v { moved = v.moved + send_count n u; phase = Ready; payload = [] }) (record v { moved = v.moved + send_count n u }) (IsOld s)
             (λ _. record { posted = λ e. absurd (true≢false (sym e)); input = old.input }) (λ _. record { posted = old.posted; input = old.input })) t.transfers h.0,
-        All-set (ReceivesForInput s) t.devices d (change_device (with_sent sent) (entry t.devices d)) (sent_device sent (entry t.devices d) (entry_has (ReceivesForInput s) tt t.devices d h.1)) h.1,
+        λ e. entry_set (ReceivesForInput s e) t.devices d e (change_device (with_sent sent) (entry t.devices d)) (h.1 e) (λ same. sent_device e sent (entry t.devices d) (subst (λ i. ReceivesForInput s e (entry t.devices i)) same (h.1 e))),
         h.2,
       )
 
@@ -173,7 +171,7 @@ module _ (s : State) where
   after_recv d n o =
       let r = received s d n o in
       let next = r.next in
-      (All-weaker (IsKnown s) (IsOld s) (λ t known. record { posted = λ e. known.input (known.posted e); input = known.input }) (recv s d n).0.transfers r.transfers, r.devices, omega (arith, next))
+      (All-weaker (IsKnown s) (IsOld s) (λ t known. record { posted = λ e. (known.input t.device (known.posted e)).0; input = known.input }) (recv s d n).0.transfers r.transfers, r.devices, omega (arith, next))
 
   performed : (e : Event) → IsOrderly s → Lasts s s → Lasts s (perform s e).0
   performed (Fork p q) o h = after_copies (spawned s q) q (accessible (regions_at s p)) h
@@ -183,11 +181,11 @@ module _ (s : State) where
   performed (Write p a bytes) o h = after_store s _ a bytes h
   performed (Output p sem d port flow a n) o h =
       let u : Transfer = output_of s p (class_of sem) (record { device = d; port = port; flow = flow }) a n (reach_of s p a n) in
-      after_move_out (add_transfer s u) (class_of sem) (reach_of s p a n) (after_call s u (record { posted = λ e. absurd (true≢false (sym e)); input = λ is. absurd (omega (arith, is.0)) }) h)
+      after_move_out (add_transfer s u) (class_of sem) (reach_of s p a n) (after_call s u (record { posted = λ e. absurd (true≢false (sym e)); input = λ e is. absurd (omega (arith, is.0)) }) h)
   performed (Input p sem d port flow a n) o h =
       let to : Address = record { device = d; port = port; flow = flow } in
       let inward = posted_inward p (class_of sem) to a n in
-      after_buffer s p (class_of sem) n (posted s p (class_of sem) to a n) (after_call s (posted s p (class_of sem) to a n) (record { posted = λ _. inward; input = λ _. inward }) h)
+      after_buffer s p (class_of sem) n (posted s p (class_of sem) to a n) (after_call s (posted s p (class_of sem) to a n) (record { posted = λ _. inward.0; input = λ e is. absurd (omega (arith, inward.1, is.0)) }) h)
   performed (Send d n) o h = after_send s d n (first_queued s d) h
   performed (Recv d n) o h = after_recv d n o
   performed (Finish k) o h = after_finish s k (pending s k) h
@@ -201,4 +199,4 @@ pub posted_are_inputs : Stays PostedAreInputs
 posted_are_inputs s e m whole o = step_so PostedAreInputs s o.posted (λ f i d lt. ((lasting s f o).0 i d lt).posted) e m
 
 pub matched_are_inputs : Stays MatchedAreInputs
-matched_are_inputs s e m whole o = step_so MatchedAreInputs s o.matched (λ f. let t : State = (accept s f).0 in let h = lasting s f o in All-weaker (ReceivesForInput s) (ReceivesForInput t) (λ v. later_device s t v h) t.devices h.1) e m
+matched_are_inputs s e m whole o = step_so MatchedAreInputs s o.matched (λ f d. let t : State = (accept s f).0 in let h = lasting s f o in later_device s t d (entry t.devices d) h (h.1 d)) e m

@@ -1,10 +1,10 @@
 -- Integrity: what a run sends is what the outputs' buffers had, and what it receives shows nowhere too soon.
-use Rattle.std.specs.Prelude.{◌≡◌, ◌⊎◌, ℕ, ◌+◌, ◌-◌, ◌<◌, ◌==◌, Bool, true, false, IsTrue, ◌&&◌, List, [], ◌∷◌, ◌++◌, length, get_or, All, Option, None, Some, ⊤, if◌then◌else◌}
+use Rattle.std.specs.Prelude.{◌≡◌, ◌⊎◌, ℕ, ◌+◌, ◌-◌, ◌<◌, ◌==◌, nat_le, nat_lt, Bool, true, false, IsTrue, ◌&&◌, List, [], ◌∷◌, ◌++◌, length, take, get_or, All, Option, None, Some, ⊤, if◌then◌else◌}
 use Rattle.std.specs.List.{list_any, Any}
 use Rattle.genie_base.specs.Bytes.{part}
 use Rattle.genie_base.specs.Configs.{Config, Fits}
 use Rattle.genie_base.specs.Events.{is_whole, mark_of}
-use Rattle.genie_base.specs.Headers.{header_taken}
+use Rattle.genie_base.specs.Headers.{header_taken, port_in, len_in, flow_in}
 use Rattle.genie_base.specs.Records.{header_bytes}
 use Rattle.genie_base.specs.Transfers.{class_of}
 use Rattle.genie_base.specs.declared.event.Event.{Event}
@@ -14,10 +14,12 @@ use Rattle.genie_base.specs.declared.reply.Reply.{Reply}
 use Rattle.genie_base.specs.declared.reply.Reply.TheVariants.{Id}
 use Rattle.genie_base.specs.declared.semantics.Class.{Class}
 use Rattle.genie_base.specs.declared.semantics.Class.TheVariants.{Copy, Share, Move, WeakMove}
+use Rattle.genie_model.specs.declared.datagram.Fate.{Fate}
+use Rattle.genie_model.specs.declared.datagram.Fate.TheVariants.{Matched, Skipped, Gathering}
 use Rattle.genie_model.specs.Flat.{sent_of}
 use Rattle.genie_model.specs.Orderly.{IsOrderly}
 use Rattle.genie_model.specs.Outputs.{number_of, place_reached}
-use Rattle.genie_model.specs.Pending.{is_inward, covers, pending}
+use Rattle.genie_model.specs.Pending.{is_inward, covers, pending, first_posted}
 use Rattle.genie_model.specs.Regions.{bytes_of, reach_of}
 use Rattle.genie_model.specs.Space.{bytes_reached}
 use Rattle.genie_model.specs.State.{State, Transfer, Device, Datagram, boot}
@@ -105,26 +107,56 @@ OutputsKeepIntegrity = (c : Config) (inputs : ℕ → List ℕ) (es : List Event
 abbrev pub is_under_input : ℕ → ℕ → Transfer → Bool
 is_under_input k x t = is_inward t.direction && covers k x t
 
--- which byte of what is left of a device's input is byte j of the payload that it is receiving, or is about to receive
+-- the header of the record that the device is about to receive, as far as it is there
+abbrev pub next_header : Device → List ℕ
+next_header v = v.header ++ take (header_taken (length v.rest) v.header v.rest) v.rest
+
+-- byte j of the payload that the device is receiving, or is about to receive, is still to come
+abbrev pub is_to_come : Device → Option Datagram → ℕ → Bool
+is_to_come v None j = nat_lt j (len_in (next_header v))
+is_to_come v (Some g) j = nat_le g.moved j && nat_lt j g.len
+
+-- where it then is in what is left of the device's input
 abbrev pub payload_place : Device → Option Datagram → ℕ → ℕ
 payload_place v None j = header_taken (length v.rest) v.header v.rest + j
 payload_place v (Some g) j = j - g.moved
 
--- byte j of that payload, where it is there
+-- that byte, where it is there
+abbrev pub byte_to_come : Device → Option Datagram → ℕ → List ℕ
+byte_to_come v present j = if is_to_come v present j then part (payload_place v present j) 1 v.rest else []
+
 abbrev pub payload_byte : Option Device → ℕ → List ℕ
 payload_byte None j = []
-payload_byte (Some v) j = part (payload_place v v.present j) 1 v.rest
+payload_byte (Some v) j = byte_to_come v v.present j
 
--- What a receive step of device d stored at place x of region or orphan k: the payload's byte for that place of the buffer
--- of a pending weak input.
+abbrev pub matched_to : Fate → Option ℕ
+matched_to Skipped = None
+matched_to (Matched k) = Some k
+matched_to Gathering = None
+
+-- the number of the input whose payload that is: the one to which the datagram was matched, or the first posted input that
+-- the next record meets
+abbrev pub met_by : State → ℕ → Device → Option Datagram → Option ℕ
+met_by s d v None = first_posted s d (port_in (next_header v)) (flow_in (next_header v))
+met_by s d v (Some g) = matched_to g.fate
+
+abbrev pub met : State → ℕ → Option Device → Option ℕ
+met s d None = None
+met s d (Some v) = met_by s d v v.present
+
+-- What a receive step of device d stored at place x of region or orphan k: one byte, that of the payload for this place of
+-- the buffer of the weak input whose payload it is.
 pub record Landed (s : State) (d k x : ℕ) (byte : List ℕ) : Type 0 where
   pub input : Transfer
   pub pending : pending s input.number ≡ Some input
+  pub device : input.device ≡ d
+  pub met : met s d (entry s.devices d) ≡ Some input.number
   pub covers : IsTrue (is_under_input k x input)
+  pub one : length byte ≡ 1
   pub payload : byte ≡ payload_byte (entry s.devices d) (x - input.offset)
 
--- A receive step leaves each byte of regions and orphans, or stores the payload's byte where a pending weak input covers it.
--- So a strong input changes none before it is done.
+-- A receive step leaves each byte of regions and orphans, or stores the payload's byte where the weak input that its
+-- record meets covers it. So a strong input changes none before it is done.
 abbrev pub InputsKeepIntegrity : Type 0
 InputsKeepIntegrity = (s : State) (d n : ℕ) (m : Mark) (k x : ℕ) → IsOrderly s
     → (bytes_of (step s (Recv d n) m).0 k x 1 ≡ bytes_of s k x 1) ⊎ Landed s d k x (bytes_of (step s (Recv d n) m).0 k x 1)

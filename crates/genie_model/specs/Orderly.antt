@@ -15,6 +15,7 @@ use Rattle.genie_model.specs.State.{State, Region, Orphan, Process, Transfer, De
 use Rattle.genie_model.specs.Regions.{extent_of, regions_of, regions_at, is_region, region_numbered, orphan_numbered, committed}
 use Rattle.genie_model.specs.Pending.{names, wired, is_posted, is_inward}
 use Rattle.genie_model.specs.Space.{is_move, is_named, tidy}
+use Rattle.genie_model.specs.Tables.{entry}
 use Rattle.genie_model.specs.Refusing.{frames_to_wire}
 
 -- the application's area ends at page 512, and the system's follows it up to page 1,024
@@ -128,22 +129,27 @@ pub record HeldForOne (s : State) : Type 0 where
 abbrev pub PostedAreInputs : State → Type 0
 PostedAreInputs s = All (λ (t : Transfer). IsTrue (is_posted t.phase) → IsTrue (is_inward t.direction)) s.transfers
 
--- the number was given to a call, and where that is pending it is an input
-abbrev pub IsInput : State → ℕ → Type 0
-IsInput s k = (k < s.next) × All (λ (t : Transfer). t.number ≡ k → IsTrue (is_inward t.direction)) s.transfers
+-- the number was given to a call, and where that is pending it is an input of device d
+abbrev pub IsInput : State → ℕ → ℕ → Type 0
+IsInput s d k = (k < s.next) × All (λ (t : Transfer). t.number ≡ k → IsTrue (is_inward t.direction) × (t.device ≡ d)) s.transfers
 
-abbrev pub GoesToInput : State → Fate → Type 0
-GoesToInput s Skipped = ⊤
-GoesToInput s (Matched k) = IsInput s k
-GoesToInput s Gathering = ⊤
+abbrev pub GoesToInput : State → ℕ → Fate → Type 0
+GoesToInput s d Skipped = ⊤
+GoesToInput s d (Matched k) = IsInput s d k
+GoesToInput s d Gathering = ⊤
 
--- the datagram that the device is receiving, if there is one and it was matched, was matched to an input
-abbrev pub ReceivesForInput : State → Option Device → Type 0
-ReceivesForInput s v = IfSome v (λ (d : Device). IfSome d.present (λ (g : Datagram). GoesToInput s g.fate))
+-- the datagram is under way at device d: some of its payload is still to come, and if it was matched, then to an input of
+-- that device
+pub record IsUnderWay (s : State) (d : ℕ) (g : Datagram) : Type 0 where
+  pub left : g.moved < g.len
+  pub input : GoesToInput s d g.fate
 
--- so it is in each device
+abbrev pub ReceivesForInput : State → ℕ → Option Device → Type 0
+ReceivesForInput s d v = IfSome v (λ (w : Device). IfSome w.present (IsUnderWay s d))
+
+-- so is the datagram that each device is receiving, if it is receiving one
 abbrev pub MatchedAreInputs : State → Type 0
-MatchedAreInputs s = All (ReceivesForInput s) s.devices
+MatchedAreInputs s = (d : ℕ) → ReceivesForInput s d (entry s.devices d)
 
 -- all of this
 pub record IsOrderly (s : State) : Type 0 where

@@ -123,7 +123,8 @@ pub fn posted_are_inputs()
     ensures { Stays PostedAreInputs }
 {}
 
-/// The datagrams that devices are receiving were matched to inputs alone.
+/// Of a datagram that a device is receiving some payload is still to come, and if it was matched, then to an input of that
+/// device.
 #[tactic(auto, using(crate::proofs::Receivers::matched_are_inputs))]
 pub fn matched_are_inputs()
     ensures { Stays MatchedAreInputs }
@@ -140,8 +141,8 @@ pub fn outputs_keep_integrity()
     ensures { OutputsKeepIntegrity }
 {}
 
-/// A receive step leaves each byte, or stores the payload's byte where a pending weak input covers it; so a strong input
-/// changes none before it is done.
+/// A receive step leaves each byte, or stores the payload's byte where the weak input that its record meets covers it; so a
+/// strong input changes none before it is done.
 #[tactic(auto, using(crate::proofs::Covered::inputs_keep_integrity))]
 pub fn inputs_keep_integrity()
     ensures { InputsKeepIntegrity }
