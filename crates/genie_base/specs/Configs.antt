@@ -58,13 +58,13 @@ most Pooled page = 16 * page
 most Early page = 64 * page
 most Outboard page = 64 * page
 
--- how many datagrams may wait in a device
+-- the highest DEPTH: how many datagrams may wait in a device of this kind
 abbrev pub most_depth : Kind → ℕ
 most_depth Early = 1
 most_depth Pooled = 4
 most_depth Outboard = 4
 
--- only a pooled device's buffers may begin inside a page
+-- OFFSET is below this: only a pooled device's buffers may begin inside a page
 abbrev pub offset_end : Kind → ℕ → ℕ
 offset_end Pooled page = page
 offset_end Early page = 1

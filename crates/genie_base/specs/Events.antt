@@ -8,6 +8,7 @@ use Rattle.genie_base.specs.declared.reply.Mark.{Mark}
 use Rattle.genie_base.specs.declared.reply.Mark.TheVariants.{NoFault, Device, Store}
 use Rattle.genie_base.specs.Transfers.{class_of, is_system}
 
+-- exactly one of the two holds
 abbrev pub has_one : Bool → Bool → Bool
 has_one true b = not b
 has_one false b = b

@@ -1,5 +1,5 @@
--- A step that failed after some bytes comes, called again with the rest of its budget, to where a step without the
--- failure comes.
+-- A step that failed after some bytes, and is called again with the rest of its budget, takes or sends together as many
+-- bytes as one step without the failure.
 use Rattle.std.specs.Prelude.{◌≡◌, ℕ, ◌+◌, ◌-◌, ◌≤◌, min, false, List, ◌++◌, length, Option}
 use Rattle.genie_base.specs.Headers.{is_whole_header, header_taken, payload_taken}
 use Rattle.genie_base.specs.Records.{unsent_bytes}

@@ -256,21 +256,29 @@ fn openings_fail_where_absent_or_refused(rt: HostRuntime) -> Result<(), Fail> {
     Ok(())
 }
 
-fn writes_then_reads<H: Host>(host: &mut H, name: &[u8]) -> Result<[[usize; 6]; 2], OpenRefused>
+// Six writes to a file, and then its first bytes and six reads of what is left.
+fn writes_then_reads<H: Host>(
+    host: &mut H,
+    name: &[u8],
+) -> Result<([usize; 6], [u8; 6], [usize; 6]), OpenRefused>
     requires { (H.view host.old).opened ≡ 0 }
 {
     let written = host.open_write(name)?;
     let counts = writes(host, written);
     let read = host.open_read(name)?;
-    Ok([counts, reads(host, read)])
+    let mut first = [0u8; 6];
+    let _ = host.read(read, &mut first);
+    Ok((counts, first, reads(host, read)))
 }
 
 #[test]
 fn real_files_are_written_and_read(rt: HostRuntime) -> Result<(), Fail> {
     let name = "genie_host_test.tmp";
     let mut host = FileHost::new(&rt, rt.alloc())?;
-    let counts = writes_then_reads(&mut host, name.as_bytes())?;
-    assert_eq!(rt; counts, [[4, 4, 4, 4, 4, 4], [4, 4, 4, 4, 4, 4]]);
+    let (written, first, read) = writes_then_reads(&mut host, name.as_bytes())?;
+    assert_eq!(rt; written, [4, 4, 4, 4, 4, 4]);
+    assert_eq!(rt; first.as_slice(), b"abcdab".as_slice());
+    assert_eq!(rt; read, [4, 4, 4, 4, 2, 0]);
     let mut host = FileHost::new(&rt, rt.alloc())?;
     assert!(rt; !can_read(&mut host, b"genie_host_missing.tmp"));
     fs::remove_file(&rt, name)?;

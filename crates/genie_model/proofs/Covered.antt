@@ -23,7 +23,7 @@ use Rattle.genie_model.specs.Tables.{change, entry}
 use Rattle.genie_model.specs.Regions.{bytes_of}
 use Rattle.genie_model.specs.Pending.{is_early, is_inward, is_posted, is_numbered, posted_for, awaits, names_weakly, covers, pending, first_posted}
 use Rattle.genie_model.specs.Sending.{change_device}
-use Rattle.genie_model.specs.Receiving.{receiving, set_device, is_busy, with_phase, arrived_whole, gathered, after_receiving, change_transfer, deliver, complete, fitting, landing, landed, land_in, land, after_bytes, go_on, take_payload, datagram, skipped, match_header, begin_datagram, read_header, header_reply, take_header, receive_record, receive, recv}
+use Rattle.genie_model.specs.Receiving.{receiving, set_device, is_busy, with_phase, with_datagram, gathered, after_receiving, change_transfer, deliver, complete, fitting, landing, landed, land_in, land, after_bytes, go_on, take_payload, datagram, skipped, match_header, begin_datagram, read_header, header_reply, take_header, receive_record, receive, recv}
 use Rattle.genie_model.specs.Step.{accept}
 use Rattle.genie_model.proofs.Arriving.{choice}
 use Rattle.genie_model.proofs.Behind.{part_taken, whole_taken, behind_header}
@@ -201,7 +201,7 @@ module _ (s : State) (d : ℕ) (o : IsOrderly s) where
 
   complete_so : (t : State) (g : Datagram) (truncated : Bool) (k : ℕ) (fate : Fate) → Received s d t → Received s d (complete t d g truncated k fate).0
   complete_so t g truncated k Skipped r = r
-  complete_so t g truncated k (Matched u) r = changed_so t u (arrived_whole truncated g.len) (ready (arrived_whole truncated g.len) (λ v. refl)) r
+  complete_so t g truncated k (Matched u) r = changed_so t u (with_datagram truncated g.len) (ready (with_datagram truncated g.len) (λ v. refl)) r
   complete_so t g truncated k Gathering r = deliver_so t g truncated k (first_posted t d g.port g.flow) r
 
   go_on_so : (t : State) (v : Device) (g : Datagram) (k : ℕ) → g.moved ≤ g.len → GoesToInput s d g.fate → Received s d t → Received s d (go_on t d v g k).0

@@ -27,7 +27,7 @@ use Rattle.genie_model.specs.Space.{Outcome, remove_found, region_from, protect_
 use Rattle.genie_model.specs.Outputs.{output_of, after_output}
 use Rattle.genie_model.specs.Inputs.{posted, with_buffer, weak_buffer, reusable, pages_for, address_or_zero}
 use Rattle.genie_model.specs.Sending.{after_sending, must_stage, unsent, send_next}
-use Rattle.genie_model.specs.Receiving.{set_device, is_busy, with_phase, arrived_whole, gathered, after_receiving, change_transfer, deliver, complete, landing, landed, land_in, land, after_bytes, go_on, take_payload, datagram, match_header, begin_datagram, read_header, take_header, receive_record, receive}
+use Rattle.genie_model.specs.Receiving.{set_device, is_busy, with_phase, with_datagram, gathered, after_receiving, change_transfer, deliver, complete, landing, landed, land_in, land, after_bytes, go_on, take_payload, datagram, match_header, begin_datagram, read_header, take_header, receive_record, receive}
 use Rattle.genie_model.specs.Ending.{after_landing, finish_copy, finish_share, finish_move, finish_weak_move, finish_input, finish_owned, finish_for, finish_found, after_cancel, cancel_found, without_transfer, region_of}
 use Rattle.genie_model.specs.Laws.{is_refused, id_of, StepsKeepConfig}
 use Rattle.genie_model.specs.Refusing.{refuse}
@@ -151,7 +151,7 @@ deliver_did s g truncated k (Some t) = after s _ _ (change_keeps s t (gathered t
 
 complete_did : (s : State) (d : ℕ) (g : Datagram) (truncated : Bool) (k : ℕ) (fate : Fate) → Did s None (complete s d g truncated k fate)
 complete_did s d g truncated k Skipped = quiet s _ _ refl refl
-complete_did s d g truncated k (Matched t) = after s _ _ (change_keeps s t (arrived_whole truncated g.len) (λ u. record { number = refl; cost = λ page. refl })) refl
+complete_did s d g truncated k (Matched t) = after s _ _ (change_keeps s t (with_datagram truncated g.len) (λ u. record { number = refl; cost = λ page. refl })) refl
 complete_did s d g truncated k Gathering = deliver_did s g truncated k (first_posted s d g.port g.flow)
 
 go_on_did : (s : State) (d : ℕ) (v : Device) (g : Datagram) (k : ℕ) → Did s None (go_on s d v g k)

@@ -13,7 +13,7 @@ use Rattle.genie_model.specs.Tables.{change, entry}
 use Rattle.genie_model.specs.Pending.{is_early, is_numbered, pending, first_posted, first_queued, waits_for}
 use Rattle.genie_model.specs.Space.{Outcome}
 use Rattle.genie_model.specs.Sending.{unsent, after_sending, send_bytes, must_stage, staged_now, after_staging, stage_bytes, stage_count, send_count, send_next, send}
-use Rattle.genie_model.specs.Receiving.{set_device, is_busy, with_phase, arrived_whole, gathered, change_transfer, deliver, complete, fitting, after_receiving, landing, landed, land_in, land, after_bytes, go_on, take_payload, datagram, skipped, match_header, begin_datagram, read_header, take_header, receive_record, receive, recv}
+use Rattle.genie_model.specs.Receiving.{set_device, is_busy, with_phase, with_datagram, gathered, change_transfer, deliver, complete, fitting, after_receiving, landing, landed, land_in, land, after_bytes, go_on, take_payload, datagram, skipped, match_header, begin_datagram, read_header, take_header, receive_record, receive, recv}
 use Rattle.genie_model.proofs.Standing.{Fine, Stand}
 use Rattle.genie_model.proofs.Naming.{stand_change}
 use Rattle.genie_model.proofs.Staying.{Stands, put_stands}
@@ -55,7 +55,7 @@ deliver_stands s g truncated k (Some t) h = change_stands s t (gathered truncate
 
 complete_stands : (s : State) (d : ℕ) (g : Datagram) (truncated : Bool) (k : ℕ) (fate : Fate) → Stands s → Stands (complete s d g truncated k fate).0
 complete_stands s d g truncated k Skipped h = h
-complete_stands s d g truncated k (Matched t) h = change_stands s t (arrived_whole truncated g.len) (λ u f. f) (λ u. refl) (λ u. refl) h
+complete_stands s d g truncated k (Matched t) h = change_stands s t (with_datagram truncated g.len) (λ u f. f) (λ u. refl) (λ u. refl) h
 complete_stands s d g truncated k Gathering h = deliver_stands s g truncated k (first_posted s d g.port g.flow) h
 
 go_on_stands : (s : State) (d : ℕ) (v : Device) (g : Datagram) (k : ℕ) → Stands s → Stands (go_on s d v g k).0

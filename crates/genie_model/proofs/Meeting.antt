@@ -16,7 +16,7 @@ use Rattle.genie_model.specs.Pending.{is_queued, is_posted, is_early, is_numbere
 use Rattle.genie_model.specs.Space.{Outcome}
 use Rattle.genie_model.specs.Sending.{change_device}
 use Rattle.genie_model.specs.Refusing.{has_output}
-use Rattle.genie_model.specs.Receiving.{receiving, set_device, is_busy, with_phase, arrived_whole, gathered, after_receiving, change_transfer, deliver, complete, landing, landed, land_in, land, after_bytes, go_on, take_payload, datagram, skipped, match_header, begin_datagram, take_header, receive_record, receive, recv}
+use Rattle.genie_model.specs.Receiving.{receiving, set_device, is_busy, with_phase, with_datagram, gathered, after_receiving, change_transfer, deliver, complete, landing, landed, land_in, land, after_bytes, go_on, take_payload, datagram, skipped, match_header, begin_datagram, take_header, receive_record, receive, recv}
 use Rattle.genie_model.specs.Orderly.{NumbersRise}
 use Rattle.genie_model.proofs.Having.{all_has, find_has, entry_set}
 use Rattle.genie_model.proofs.Queues.{queue, number_free, queue_free}
@@ -105,7 +105,7 @@ module _ (d : ℕ) (q : List Transfer) (n : ℕ) (configs : List (Option DeviceC
 
   complete_keeps : (s : State) (dev : ℕ) (g : Datagram) (truncated : Bool) (k : ℕ) (fate : Fate) → EndsFree q n s fate → Keeps s → Keeps (complete s dev g truncated k fate).0
   complete_keeps s dev g truncated k Skipped free h = h
-  complete_keeps s dev g truncated k (Matched t) free h = change_keeps s t (arrived_whole truncated g.len) (λ u e. refl) free h
+  complete_keeps s dev g truncated k (Matched t) free h = change_keeps s t (with_datagram truncated g.len) (λ u e. refl) free h
   complete_keeps s dev g truncated k Gathering free h = deliver_keeps s g truncated k (first_posted s dev g.port g.flow) (free dev g.port g.flow) h
 
   ends_met : (s : State) (fate : Fate) → EndsFree q n s fate → MeetsOther q n fate

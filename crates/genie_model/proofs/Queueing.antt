@@ -348,10 +348,6 @@ store_none : (d : ℕ) (s : State) (e : Event) (later : List State) → accepted
 store_none d s (Output p sem dev port flow a n) later = refl
 store_none d s e later = refl
 
-fault_none : (d : ℕ) (s : State) (e : Event) (k : ℕ) (later : List State) → accepted d s e (reply.Fault k) later ≡ []
-fault_none d s (Output p sem dev port flow a n) k later = refl
-fault_none d s e k later = refl
-
 stays : (d : ℕ) (s : State) (outputs : List State → List Accepted) → Meets d s → ((later : List State) → outputs later ≡ []) → Goes d s s outputs
 stays d s outputs meets h = (still refl refl h, meets)
 

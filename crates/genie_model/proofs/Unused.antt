@@ -56,19 +56,6 @@ no_longer (x ∷ xs) ys h =
     let rest = no_longer xs (without (λ n. n == x) ys) (λ k. omega (arith, h k, times-without k x ys here)) in
     omega (arith, rest, length-without x ys here)
 
--- a number of a list stands there
-pub times_found : (k : ℕ) (xs : List ℕ) → 1 ≤ times k xs → Contains xs k
-times_found k [] h = absurd (omega arith)
-times_found k (x ∷ xs) h = ⊎_elim (λ (e : (x == k) ≡ true). (0, omega arith, eqb-true x k e)) (λ (e : (x == k) ≡ false). let c = times_found k xs (omega (arith, h, ap one e)) in (suc c.0, omega (arith, c.1), c.2)) (cases_Bool (x == k))
-
-pub times_contains : (k : ℕ) (xs : List ℕ) → Contains xs k → 1 ≤ times k xs
-times_contains k xs c = later xs c.0 c.1 c.2
-  where
-    later : (xs : List ℕ) (i : ℕ) → i < length xs → get_or xs i k ≡ k → 1 ≤ times k xs
-    later [] i h e = absurd (omega arith)
-    later (x ∷ xs) zero h e = omega (arith, ap one (eq-eqb x k e))
-    later (x ∷ xs) (suc i) h e = omega (arith, later xs i (omega arith) e)
-
 -- numbers from a on, one after the other: each stands there once at most, and no other one does
 range_once : (k a n : ℕ) → (times k (range_with_len a n) ≤ 1) × (k < a → times k (range_with_len a n) ≡ 0) × (a + n ≤ k → times k (range_with_len a n) ≡ 0)
 range_once k a zero = (omega arith, λ h. refl, λ h. refl)
@@ -108,9 +95,6 @@ used_times s k =
     let orphans : ℕ = times k (orphan_numbers s.orphans) in
     let all : times k (numbers s) ≡ orphans + regions = omega (arith, times-append k (flat_map region_numbers s.processes) (orphan_numbers s.orphans)) in
     ap₂ ◌||◌ (orphans_some k s.orphans) (processes_some k s.processes) ∙ sym (or_some orphans regions) ∙ ap (nat_lt 0) (sym all)
-
-pub used_numbers : (s : State) (k : ℕ) → Decides (is_used s k) (Contains (numbers s) k)
-used_numbers s k = (λ e. times_found k (numbers s) (ltb-true 0 _ (sym (used_times s k) ∙ e)), λ c. used_times s k ∙ lt-ltb 0 _ (times_contains k (numbers s) c))
 
 -- the search ends at a number that isn't used, or all that were tried are
 tried : (s : State) (tries n : ℕ) → (is_used s (least_unused s tries n) ≡ false) ⊎ ((k : ℕ) → n ≤ k → k < n + tries → is_used s k ≡ true)

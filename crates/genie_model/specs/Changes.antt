@@ -1,11 +1,11 @@
--- What each change of the plain machine makes of a region.
+-- What each change of the plain machine makes of a region, and each turn of a transfer.
 use Rattle.std.specs.Prelude.{◌+◌, ◌<◌, ◌^◌, length, ⊤, List, [], ◌∷◌, if◌then◌else◌}
 use Rattle.genie_base.specs.Regions.{is_accessible}
 use Rattle.genie_base.specs.declared.region.RegionState.TheVariants.{Live}
 use Rattle.genie_model.specs.State.{Region, Transfer}
 use Rattle.genie_model.specs.Regions.{with_bytes, with_state, with_mode}
 use Rattle.genie_model.specs.Ending.{filled}
-use Rattle.genie_model.specs.Receiving.{with_phase, arrived_whole, gathered, after_receiving}
+use Rattle.genie_model.specs.Receiving.{with_phase, with_datagram, gathered, after_receiving}
 use Rattle.genie_model.specs.declared.phase.Phase.TheVariants.{Moving}
 use Rattle.genie_model.specs.declared.change.Turn.{Turn}
 use Rattle.genie_model.specs.declared.change.Turn.TheVariants as turn
@@ -24,7 +24,7 @@ change_of (Fill bytes) = filled bytes.now
 
 abbrev pub turn_of : Turn → Transfer → Transfer
 turn_of turn.Moving = with_phase Moving
-turn_of (turn.Arrived truncated len) = arrived_whole truncated len
+turn_of (turn.Arrived truncated len) = with_datagram truncated len
 turn_of (turn.Gathered truncated len bytes) = gathered truncated len bytes.now
 turn_of (turn.Received at bytes) = after_receiving at bytes.now
 

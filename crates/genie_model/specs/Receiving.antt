@@ -52,8 +52,9 @@ with_phase phase t = record t { phase = phase }
 abbrev pub note_of : Bool → ℕ → ℕ → Note
 note_of truncated len buffer = if truncated then Trunc else (if nat_lt buffer len then Cut else Whole)
 
-abbrev pub arrived_whole : Bool → ℕ → Transfer → Transfer
-arrived_whole truncated len t = record t { phase = Ready; note = note_of truncated len t.len }
+-- ready: its datagram has ended, whole or truncated
+abbrev pub with_datagram : Bool → ℕ → Transfer → Transfer
+with_datagram truncated len t = record t { phase = Ready; note = note_of truncated len t.len }
 
 -- with the bytes that fit its buffer
 abbrev pub gathered : Bool → ℕ → List ℕ → Transfer → Transfer
@@ -70,7 +71,7 @@ deliver s g truncated k (Some t) = (change_transfer s t (gathered truncated g.le
 -- the datagram ends, and the step, which moved k bytes, with it
 abbrev pub complete : State → ℕ → Datagram → Bool → ℕ → Fate → Outcome
 complete s d g truncated k Skipped = (s, reply.Got k)
-complete s d g truncated k (Matched t) = (change_transfer s t (arrived_whole truncated g.len), reply.Got k)
+complete s d g truncated k (Matched t) = (change_transfer s t (with_datagram truncated g.len), reply.Got k)
 complete s d g truncated k Gathering = deliver s g truncated k (first_posted s d g.port g.flow)
 
 -- of the payload bytes from the datagram's place x on those that fit the buffer of t
@@ -184,7 +185,7 @@ stays_behind_header s d k v h =
     if is_whole_header header then is_received s d v header && stays_in_payload (drop h v.rest) (len_in header) (k - h)
     else (h == k)
 
--- a step that moves k bytes completes no datagram
+-- k bytes more of a record that isn't dropped are there, and end inside it
 abbrev pub stays_inside : State → ℕ → ℕ → Device → Option Datagram → Bool
 stays_inside s d k v None = stays_behind_header s d k v (header_taken k v.header v.rest)
 stays_inside s d k v (Some g) = stays_in_payload v.rest (g.len - g.moved) k

@@ -50,7 +50,7 @@ abbrev pub is_sys : Area → Bool
 is_sys App = false
 is_sys Sys = true
 
--- a region of the system's that no weak move has under way
+-- a region of the system's that is neither moved out, nor moved into, nor held
 abbrev pub may_move : Option Region → Bool
 may_move None = false
 may_move (Some r) = is_sys r.area && is_live r.state
@@ -58,7 +58,7 @@ may_move (Some r) = is_sys r.area && is_live r.state
 abbrev pub is_weak_input_into : ℕ → Transfer → Bool
 is_weak_input_into k t = is_inward t.direction && names_weakly k t
 
--- a weak move has the region under way, or a weak input may still store in it
+-- the region is moved out or moved into, or a weak input may still store in it
 abbrev pub must_stay_writable : State → Option Region → Bool
 must_stay_writable s None = false
 must_stay_writable s (Some r) = not (is_live r.state) || list_any (is_weak_input_into r.number) s.transfers

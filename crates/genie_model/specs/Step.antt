@@ -60,8 +60,8 @@ uses_store (Finish k) = true
 uses_store (Pageout n) = true
 uses_store _ = false
 
--- the host of a device may fail after k bytes, fewer than the budget, where the step moves bytes and those k complete no
--- record and no datagram
+-- the host of a device may fail after k bytes, fewer than the budget: where the device isn't idle, staging, busy or bad,
+-- and for k above 0 those bytes are there, belong to a record that isn't dropped, and end inside it
 abbrev pub may_fail : State → Event → ℕ → Bool
 may_fail s (Send d n) k = nat_lt k n && may_fail_sending s d k
 may_fail s (Recv d n) k = nat_lt k n && may_fail_receiving s d k

@@ -1,7 +1,7 @@
 //! The datagram that a device is receiving.
-ghost use Rattle.std.specs.Prelude.{◌≡◌, ◌==◌, ◌&&◌, ◌+◌, ◌-◌, ◌<◌, ◌≤◌, ◌^◌, [], length, drop, slice_index, IfOk, IsTrue, OnOk};
+ghost use Rattle.std.specs.Prelude.{◌≡◌, ◌+◌, ◌<◌, ◌≤◌, ◌^◌, length, drop, slice_index, IfOk, IsTrue, OnOk};
 ghost use Rattle.std.specs.Int.{from_be_bytes, w16, w32};
-ghost use Rattle.genie_base.specs.Headers.{header_size, is_whole_header, is_valid_header, size_of_header, port_in, len_in, flow_in};
+ghost use Rattle.genie_base.specs.Headers.{is_whole_header, is_valid_header, size_of_header, len_in, flow_in};
 ghost use Rattle.genie_model.specs.Receiving.{datagram, after_bytes};
 
 use byteorder::{BigEndian, ByteOrder};

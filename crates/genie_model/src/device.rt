@@ -1,5 +1,5 @@
 //! A device with what is left of its input, and its whole output.
-ghost use Rattle.std.specs.Prelude.{◌≡◌, ◌++◌, [], None, true, false, take, drop, min, length, IfOk, OnOk, OnErr, ◌≤◌};
+ghost use Rattle.std.specs.Prelude.{◌≡◌, ◌++◌, [], None, true, false, take, drop, length, IfOk, OnOk, OnErr, ◌≤◌};
 ghost use Rattle.genie_model.specs.Pending.{is_early, is_outboard};
 ghost use Rattle.genie_model.specs.Receiving.{receiving, is_between_records};
 

@@ -1,5 +1,5 @@
 //! The end of a transfer by `done`.
-ghost use Rattle.std.specs.Prelude.{◌≡◌, ℕ, ◌+◌, ◌*◌, ◌<◌, ◌≤◌, ◌^◌, Some, OnOk, IsSome};
+ghost use Rattle.std.specs.Prelude.{◌≡◌, IsSome};
 ghost use Rattle.std.specs.Option.{option_copied};
 ghost use Rattle.genie_model.specs.State.{Region as Placed};
 ghost use Rattle.genie_model.specs.Pending.{is_early_at, pending};

@@ -1,12 +1,11 @@
 //! The input call, and `cancel`.
-ghost use Rattle.std.specs.Prelude.{◌≡◌, ℕ, ◌+◌, ◌-◌, ◌/◌, ◌*◌, ◌<◌, ◌≤◌, ◌^◌, ◌&&◌, not, find, IfOk, OnOk, IsSome, IsTrue, length};
+ghost use Rattle.std.specs.Prelude.{◌≡◌, ◌*◌, ◌<◌, ◌≤◌, ◌^◌, ◌&&◌, not, find, OnOk, IsSome, IsTrue, length};
 ghost use Rattle.std.specs.List.{list_any};
 ghost use Rattle.std.specs.Option.{option_copied};
 ghost use Rattle.genie_base.specs.declared.semantics.Class.TheVariants.{Copy, Share, Move, WeakMove};
-ghost use Rattle.genie_model.specs.Regions.{fresh, regions_at, queue_of};
+ghost use Rattle.genie_model.specs.Regions.{fresh, regions_at};
 ghost use Rattle.genie_model.specs.Pending.{names, pending, add_transfer};
-ghost use Rattle.genie_model.specs.Tables.{entry};
-ghost use Rattle.genie_model.specs.Inputs.{pages_for, has_pages, is_reusable, reusable, moved_in, weak_buffer, input_of, input, address_or_zero};
+ghost use Rattle.genie_model.specs.Inputs.{pages_for, has_pages, reusable, moved_in, weak_buffer, input_of, input, address_or_zero};
 ghost use Rattle.genie_model.specs.Refusing.{must_make};
 ghost use Rattle.genie_model.specs.Ending.{after_cancel, cancel, region_of};
 ghost use Rattle.genie_model.specs.Targets.{address_of};

@@ -1,5 +1,5 @@
 //! The state of the plain machine.
-ghost use Rattle.std.specs.Prelude.{◌≡◌, ◌==◌, ℕ, ◌+◌, ◌-◌, ◌*◌, ◌<◌, ◌≤◌, ◌^◌, ◌&&◌, length, IfOk};
+ghost use Rattle.std.specs.Prelude.{◌≡◌, IfOk};
 ghost use Rattle.std.specs.Option.{option_copied};
 ghost use Rattle.genie_model.specs.Changes.{change_of};
 ghost use Rattle.genie_model.specs.Regions.{is_alive, reach_of, write_reach_of, region_numbered, orphan_numbered, orphan_part, bytes_of, address_of, change_region, put};

@@ -1,5 +1,5 @@
 //! The output call.
-ghost use Rattle.std.specs.Prelude.{◌≡◌, ℕ, ◌<◌, ◌≤◌, ◌^◌, IfOk, OnOk, IsSome, Some, length};
+ghost use Rattle.std.specs.Prelude.{◌≡◌, ◌<◌, ◌^◌, IfOk, OnOk, IsSome, Some, length};
 ghost use Rattle.std.specs.Option.{option_map};
 ghost use Rattle.genie_base.specs.declared.semantics.Class.TheVariants.{Move, WeakMove};
 ghost use Rattle.genie_model.specs.Regions.{reach_of};

@@ -1,5 +1,5 @@
 //! A process with its regions.
-ghost use Rattle.std.specs.Prelude.{◌≡◌, ◌==◌, ℕ, ◌+◌, ◌*◌, ◌<◌, ◌≤◌, ◌^◌, [], length, map, find, filter, sum_by, insert, OnOk, OnErr, IfOk, IfSome, Some, ◌++◌, not};
+ghost use Rattle.std.specs.Prelude.{◌≡◌, ◌==◌, ◌+◌, ◌*◌, ◌<◌, ◌≤◌, ◌^◌, [], length, map, find, filter, sum_by, insert, OnOk, OnErr, IfOk, IfSome, Some, ◌++◌, not};
 ghost use Rattle.std.specs.List.{list_any};
 ghost use Rattle.std.specs.Option.{option_copied};
 ghost use Rattle.genie_base.specs.Regions.{reach, is_free, place, add_in_order};

@@ -1,6 +1,6 @@
 //! The receive step.
-ghost use Rattle.std.specs.Prelude.{◌≡◌, ◌==◌, ℕ, ◌+◌, ◌-◌, ◌<◌, ◌≤◌, ◌^◌, ◌++◌, min, length, drop, slice_index, Some, IfOk, OnOk, IsTrue};
-ghost use Rattle.genie_base.specs.Headers.{header_taken, payload_taken, is_whole_header, is_valid_header, port_in, flow_in};
+ghost use Rattle.std.specs.Prelude.{◌≡◌, ◌+◌, ◌-◌, ◌<◌, ◌≤◌, ◌^◌, ◌++◌, length, slice_index, Some, IfOk, OnOk};
+ghost use Rattle.genie_base.specs.Headers.{header_taken, payload_taken, port_in, flow_in};
 ghost use Rattle.genie_base.specs.Configs.{most};
 ghost use Rattle.genie_model.specs.Changes.{turn_of, IsSmall};
 ghost use Rattle.genie_model.specs.Pending.{first_posted, pending};

@@ -1,5 +1,5 @@
 //! A region with its bytes as one list.
-ghost use Rattle.std.specs.Prelude.{◌≡◌, ℕ, ◌+◌, ◌-◌, ◌*◌, ◌<◌, ◌≤◌, ◌^◌, Bool, true, nat_le, length, replicate, IfOk};
+ghost use Rattle.std.specs.Prelude.{◌≡◌, ◌+◌, ◌-◌, ◌*◌, ◌<◌, ◌≤◌, ◌^◌, true, nat_le, length, replicate, IfOk};
 ghost use Rattle.genie_base.specs.Bytes.{part as part_of};
 ghost use Rattle.genie_base.specs.Regions.{is_reached, is_apart, is_accessible};
 ghost use Rattle.genie_base.specs.declared.region.RegionState.TheVariants.{Live};

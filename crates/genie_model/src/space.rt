@@ -1,5 +1,5 @@
 //! The events on address spaces.
-ghost use Rattle.std.specs.Prelude.{◌≡◌, ℕ, ◌<◌, ◌≤◌, ◌^◌, None, [], IfOk, IfSome, OnOk, length, map, slice_set};
+ghost use Rattle.std.specs.Prelude.{◌≡◌, ◌<◌, ◌≤◌, ◌^◌, None, [], IfOk, IfSome, OnOk, length, map, slice_set};
 ghost use Rattle.genie_base.specs.declared.region.RegionState.TheVariants.{Live};
 ghost use Rattle.genie_model.specs.State.{Region as Placed};
 ghost use Rattle.genie_model.specs.Regions.{fresh, is_used, regions_at, reach_of, place_of, with_state};

@@ -95,7 +95,7 @@ fn strong_output_through_a_fault(rt: HostRuntime) -> Result<(), Fail> {
     );
     assert!(rt; matches!(step(&mut flat, 2, &map, &none)?, Reply::Okay));
     assert!(rt; matches!(step(&mut flat, 3, &before, &none)?, Reply::Okay));
-    // a mark that doesn't fit its event counts as none, and one of the store answers for all
+    // a mark that doesn't fit its event counts as none, and one of the store comes before all else of an output
     assert!(rt;
         matches!(
             step(&mut flat, 4, &output(), &Mark::Store)?,

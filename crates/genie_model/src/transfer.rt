@@ -1,16 +1,16 @@
 //! A pending transfer.
-ghost use Rattle.std.specs.Prelude.{◌≡◌, ◌==◌, ℕ, ◌+◌, ◌-◌, ◌*◌, ◌<◌, ◌≤◌, ◌^◌, [], Some, None, length, map, filter, not, find, take, count_by, sum_by, IfOk, OnOk};
+ghost use Rattle.std.specs.Prelude.{◌≡◌, ◌+◌, ◌-◌, ◌*◌, ◌<◌, ◌≤◌, ◌^◌, [], Some, None, length, map, filter, not, find, take, count_by, sum_by, IfOk, OnOk};
 ghost use Rattle.std.specs.List.{list_any};
 ghost use Rattle.std.specs.Option.{option_copied};
 ghost use Rattle.genie_base.specs.Posted.{meets_flow};
-ghost use Rattle.genie_base.specs.Records.{header_bytes, header_len};
+ghost use Rattle.genie_base.specs.Records.{header_len};
 ghost use Rattle.genie_base.specs.Transfers.{is_strong};
 ghost use Rattle.genie_base.specs.declared.reply.Note.TheVariants.{Whole};
 ghost use Rattle.genie_base.specs.Counts.{cost};
 ghost use Rattle.genie_base.specs.declared.semantics.Direction.TheVariants.{Outward, Inward};
 ghost use Rattle.genie_model.specs.State.{Transfer as Pending};
 ghost use Rattle.genie_model.specs.declared.phase.Phase.TheVariants.{Queued, Posted};
-ghost use Rattle.genie_model.specs.Pending.{is_ready, is_queued, is_posted, is_just, is_inward, awaits, has_arrived, is_numbered, waits_for, touched, cost_of, names, names_weakly, covers};
+ghost use Rattle.genie_model.specs.Pending.{is_ready, is_queued, is_posted, is_just, awaits, has_arrived, is_numbered, waits_for, touched, cost_of, names, names_weakly, covers};
 ghost use Rattle.genie_model.specs.Inputs.{address_or_zero};
 ghost use Rattle.genie_model.specs.Space.{disowned, is_posted_by};
 ghost use Rattle.genie_model.specs.Refusing.{is_weak_input_into};
@@ -463,7 +463,7 @@ impl Transfer {
     }
 }
 
-// Whether a posted input meets a record of this device, port and flow.
+// Whether an input posted for this flow, or for none, meets a record with the wanted flow, or without one.
 fn meets(posted: Option<u32>, wanted: Option<u32>) -> bool
     ensures { result ≡ meets_flow posted wanted }
 {

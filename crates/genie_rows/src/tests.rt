@@ -43,7 +43,7 @@ fn is_written(host: &MemoryHost, name: &[u8], want: &[u8]) -> bool {
 fn full_table(alloc: Global) -> Result<(Vec<u8>, Vec<u8>), AllocError> {
     let mut script = Vec::new(alloc);
     let mut replies = Vec::new(alloc);
-    script.extend_from_slice(b"boot 16 32 64 16 8\ndevice 0 early - o0 1 0\nspawn 0\nmap 0 0 1\n")?;
+    script.extend_from_slice(b"boot 16 32 64 16 8\ndevice 0 early - o0 1 0\nspawn 0\nmap 0 0 4\n")?;
     replies.extend_from_slice(b"ok\nok\nok\n")?;
     for id in 1..65u32 {
         script.extend_from_slice(b"out 0 c 0 5 0 0\n")?;
@@ -67,6 +67,7 @@ fn sixty_four_transfers(rt: HostRuntime) -> Result<(), Fail> {
         Status::Done
     );
     assert!(rt; is_written(&host, b"", replies.as_slice()));
+    assert!(rt; is_written(&host, b"o0", b"GD\x00\x05\x00\x00\x00\x00"));
     Ok(())
 }
 
@@ -121,25 +122,23 @@ fn is_as_worked(alloc: Global, row: &Row) -> Result<bool, NoMemory> {
     outputs_are(alloc, &host, row)
 }
 
-// Whether all of these runs are.
-fn are_as_worked(alloc: Global, rows: &[Row]) -> Result<bool, NoMemory> {
+// Runs all of these.
+fn run_rows(rt: &HostRuntime, rows: &[Row]) -> Result<(), NoMemory> {
     for row in rows {
-        if !is_as_worked(alloc, row)? {
-            return Ok(false);
-        }
+        assert!(rt; is_as_worked(rt.alloc(), row)?, "{}", row.about);
     }
-    Ok(true)
+    Ok(())
 }
 
 #[test]
 fn worked_scripts(rt: HostRuntime) -> Result<(), Fail> {
-    assert!(rt; are_as_worked(rt.alloc(), accesses())?);
-    assert!(rt; are_as_worked(rt.alloc(), outputs())?);
-    assert!(rt; are_as_worked(rt.alloc(), inputs())?);
-    assert!(rt; are_as_worked(rt.alloc(), moves())?);
-    assert!(rt; are_as_worked(rt.alloc(), devices())?);
-    assert!(rt; are_as_worked(rt.alloc(), limits())?);
-    assert!(rt; are_as_worked(rt.alloc(), modes())?);
+    run_rows(&rt, accesses())?;
+    run_rows(&rt, outputs())?;
+    run_rows(&rt, inputs())?;
+    run_rows(&rt, moves())?;
+    run_rows(&rt, devices())?;
+    run_rows(&rt, limits())?;
+    run_rows(&rt, modes())?;
     Ok(())
 }
 
@@ -412,7 +411,7 @@ fn steps_as_worked(alloc: Global, row: &MarkedRow) -> Result<bool, NoMemory> {
 #[test]
 fn steps_under_marks(rt: HostRuntime) -> Result<(), Fail> {
     for row in failures() {
-        assert!(rt; steps_as_worked(rt.alloc(), row)?);
+        assert!(rt; steps_as_worked(rt.alloc(), row)?, "{}", row.about);
     }
     Ok(())
 }

@@ -1,7 +1,7 @@
 //! Bytes as lower-case hex digits.
-ghost use Rattle.std.specs.Prelude.{◌≡◌, ◌+◌, ◌*◌, ◌/◌, ◌<◌, ◌≤◌, ◌∷◌, ◌++◌, [], length, IfSome};
+ghost use Rattle.std.specs.Prelude.{◌≡◌, ◌+◌, ◌<◌, length, IfSome};
 ghost use Rattle.genie_script.specs.Words.{Gives, left};
-ghost use Rattle.genie_script.specs.Hex.{nibble_of, pair_at, pairs_of, bytes_of, last_bytes as last_bytes_of, hex_digit, hex_text};
+ghost use Rattle.genie_script.specs.Hex.{nibble_of, pair_at, pairs_of, bytes_of, last_bytes as last_bytes_of};
 
 use crate::words::{Words, last_word};
 use genie_base::PageBytes;

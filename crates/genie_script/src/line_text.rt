@@ -1,9 +1,9 @@
 //! Writing a line.
-ghost use Rattle.std.specs.Prelude.{◌≡◌, ◌+◌, ◌*◌, ◌<◌, ◌≤◌, ◌∷◌, ◌++◌, [], true, length, map, codes, decimal};
+ghost use Rattle.std.specs.Prelude.{◌≡◌, ◌+◌, ◌≤◌, ◌∷◌, ◌++◌, [], true, length, codes, decimal};
 ghost use Rattle.genie_script.specs.Hex.{hex_text};
 ghost use Rattle.genie_script.specs.Names.{mode_text};
 ghost use Rattle.genie_script.specs.Lines.{is_whole_line};
-ghost use Rattle.genie_script.specs.Spelling.{spaced, device_words, event_words, route_words, line_words, line_text, addr_text};
+ghost use Rattle.genie_script.specs.Spelling.{spaced, device_words, event_words, route_words, line_text, addr_text};
 
 use crate::fields::{Route, kind_text, semantics_text};
 use crate::line::{DeviceLine, Line};

@@ -1,6 +1,6 @@
 //! Reading a line.
 ghost use Rattle.std.specs.Prelude.{◌≡◌, true, Some, None, IfOk, OnErr};
-ghost use Rattle.genie_script.specs.Words.{Gives, left};
+ghost use Rattle.genie_script.specs.Words.{left};
 ghost use Rattle.genie_script.specs.Lines.{boot_of, device_of, output_of, input_of, protect_of, write_of, event_of, fields_of, line_of, is_whole_line};
 
 use crate::fields::{Route, buffer, last_mode, next_kind, next_route};

@@ -1,5 +1,5 @@
 //! Writing a reply.
-ghost use Rattle.std.specs.Prelude.{◌≡◌, ◌+◌, ◌*◌, ◌<◌, ◌≤◌, ◌∷◌, ◌++◌, [], length, codes, decimal};
+ghost use Rattle.std.specs.Prelude.{◌≡◌, ◌<◌, ◌≤◌, ◌∷◌, [], length, codes, decimal};
 ghost use Rattle.genie_base.specs.Refusals.{word_of};
 ghost use Rattle.genie_script.specs.Hex.{hex_text};
 ghost use Rattle.genie_script.specs.Names.{port_text};

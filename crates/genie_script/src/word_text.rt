@@ -1,5 +1,5 @@
 //! Writing a line word by word.
-ghost use Rattle.std.specs.Prelude.{◌≡◌, ◌+◌, ◌*◌, ◌/◌, ◌<◌, ◌≤◌, ◌∷◌, ◌++◌, [], length, map, decimal};
+ghost use Rattle.std.specs.Prelude.{◌≡◌, ◌+◌, ◌*◌, ◌<◌, ◌≤◌, ◌∷◌, ◌++◌, [], length, map, decimal};
 ghost use Rattle.genie_script.specs.Hex.{hex_digit, hex_text};
 ghost use Rattle.genie_script.specs.Names.{file_text, port_text};
 ghost use Rattle.genie_script.specs.Spelling.{spaced};
