@@ -8,11 +8,13 @@ use Rattle.genie_base.specs.declared.region.Area.TheVariants.{App, Sys}
 use Rattle.genie_base.specs.declared.region.RegionState.{RegionState}
 use Rattle.genie_base.specs.declared.region.RegionState.TheVariants.{Live, Out, In, Held}
 use Rattle.genie_base.specs.declared.semantics.Class.{Class}
-use Rattle.genie_base.specs.declared.semantics.Class.TheVariants.{Copy, Move}
+use Rattle.genie_base.specs.declared.semantics.Class.TheVariants.{Copy, Share, Move, WeakMove}
+use Rattle.genie_base.specs.declared.semantics.Direction.{Direction}
+use Rattle.genie_base.specs.declared.semantics.Direction.TheVariants.{Outward, Inward}
 use Rattle.genie_model.specs.declared.datagram.Fate.{Fate}
 use Rattle.genie_model.specs.declared.datagram.Fate.TheVariants.{Matched, Skipped, Gathering}
 use Rattle.genie_model.specs.State.{State, Region, Orphan, Process, Transfer, Device, Datagram}
-use Rattle.genie_model.specs.Regions.{extent_of, regions_of, regions_at, is_region, region_numbered, orphan_numbered, committed}
+use Rattle.genie_model.specs.Regions.{extent_of, regions_of, regions_at, is_here, is_region, region_numbered, orphan_numbered, committed}
 use Rattle.genie_model.specs.Pending.{names, wired, is_posted, is_inward}
 use Rattle.genie_model.specs.Space.{is_move, is_named, tidy}
 use Rattle.genie_model.specs.Refusing.{frames_to_wire}
@@ -110,18 +112,22 @@ abbrev pub holds : State → Option ℕ → ℕ → Bool
 holds s None k = false
 holds s (Some p) k = list_any (λ (r : Region). is_region k r && is_held r.state) (regions_at s p)
 
--- a strong transfer names nothing, or as a move input the region that its owner holds
-abbrev pub MayName : State → Transfer → Class → Option ℕ → Type 0
-MayName s t Copy (Some k) = ⊥
-MayName s t Move (Some k) = IsTrue (holds s t.owner k)
-MayName s t class region = ⊤
+-- a weak transfer names a region or an orphan, and a strong one nothing; but a move input names the region that its owner
+-- holds, until the owner is gone
+abbrev pub MayName : State → Class → Direction → Option ℕ → Option ℕ → Type 0
+MayName s Copy direction owner region = region ≡ None
+MayName s Share direction owner region = IsTrue (is_here region)
+MayName s Move Outward owner region = region ≡ None
+MayName s Move Inward owner None = owner ≡ None
+MayName s Move Inward owner (Some k) = IsTrue (holds s owner k)
+MayName s WeakMove direction owner region = IsTrue (is_here region)
 
 abbrev pub moves_into : ℕ → Transfer → Bool
 moves_into k t = is_move t.class && names k t
 
--- strong transfers name held regions alone, and what a move input names no other transfer does
+-- each transfer names what it may, and what a move input names no other one does
 pub record HeldForOne (s : State) : Type 0 where
-  pub held : All (λ (t : Transfer). MayName s t t.class t.region) s.transfers
+  pub held : All (λ (t : Transfer). MayName s t.class t.direction t.owner t.region) s.transfers
   pub one : (k : ℕ) → IsTrue (list_any (moves_into k) s.transfers) → count_by (names k) s.transfers ≤ 1
 
 -- only inputs are posted

@@ -112,7 +112,8 @@ pub fn ranges_lie()
     ensures { Stays RangesLie }
 {}
 
-/// A strong transfer names nothing, or as a move input the region that its owner holds, which no other transfer names.
+/// A weak transfer names a region or an orphan, and a strong one nothing; but a move input names the region that its owner
+/// holds, which no other transfer names, until the owner is gone.
 pub fn held_for_one()
     ensures { Stays HeldForOne }
 {}
