@@ -1,7 +1,7 @@
 //! Laws of the flat machine.
 ghost use Rattle.std.specs.Prelude.{◌≡◌, length};
 ghost use Rattle.genie_model.specs.Integrity.{OutputsKeepIntegrity, InputsKeepIntegrity, CoveredBytesStay};
-ghost use Rattle.genie_model.specs.Laws.{StepsGrow, PlainStepsShowNoFault, RefusalsChangeNothing, StepsKeepConfig, LevelsStepAlike, ThresholdsStepAlike, RunsAlike, RunsCount, Stays, RunsStayOrderly};
+ghost use Rattle.genie_model.specs.Laws.{StepsGrow, PlainStepsShowNoFault, RefusalsChangeNothing, StepsKeepConfig, LevelsStepAlike, ThresholdsStepAlike, RunsAlike, RunsCount, MovesAreNotLost, Stays, RunsStayOrderly};
 ghost use Rattle.genie_model.specs.Orderly.{RegionsAreApart, WiredIsBounded, CommittedIsBounded, NumbersRise, NumbersDiffer, OrphansAreNamed, OrphansAreInOrder, OrphansAreTidy, RangesLie, HeldForOne, PostedAreInputs, MatchedAreInputs};
 ghost use Rattle.genie_model.specs.Rows.{WorkedRows};
 
@@ -116,6 +116,12 @@ pub fn ranges_lie()
 /// holds, which no other transfer names, until the owner is gone.
 pub fn held_for_one()
     ensures { Stays HeldForOne }
+{}
+
+/// A `done` of a move never answers `lost`.
+#[tactic(auto, using(crate::proofs::Owned::moves_are_not_lost))]
+pub fn moves_are_not_lost()
+    ensures { MovesAreNotLost }
 {}
 
 /// Only inputs are posted.
