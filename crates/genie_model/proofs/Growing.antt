@@ -1,4 +1,4 @@
--- What a step adds to what was sent, and which mark its reply shows.
+-- Devices stay what they are; what a step adds to what was sent, and which mark its reply shows.
 use Rattle.std.proofs.Common.{◌≡◌, ℕ, zero, suc, ◌+◌, ◌≤◌, Bool, true, false, List, [], ◌∷◌, ◌++◌, append-nil, refl, sym, ap, ◌∙◌, arith}
 use Rattle.std.specs.Prelude.{Option, Some, None, slice_set, ◌==◌, if◌then◌else◌}
 use Rattle.genie_base.specs.Events.{mark_of}
@@ -15,7 +15,8 @@ use Rattle.genie_base.specs.declared.semantics.Class.TheVariants.{Copy, Share, M
 use Rattle.genie_base.specs.declared.semantics.Direction.{Direction}
 use Rattle.genie_base.specs.declared.semantics.Direction.TheVariants.{Outward, Inward}
 use Rattle.genie_model.specs.Flat.{sent_by, sent_of}
-use Rattle.genie_model.specs.Laws.{Grows, StepsGrow, PlainStepsShowNoFault}
+use Rattle.genie_model.specs.Laws.{Grows, StepsGrow, PlainStepsShowNoFault, Stays}
+use Rattle.genie_model.specs.Orderly.{shape_of, DevicesAreConfigs}
 use Rattle.genie_model.specs.Refusing.{refuse}
 use Rattle.genie_model.specs.State.{State, Region, Transfer, Device}
 use Rattle.genie_model.specs.Tables.{entry}
@@ -28,10 +29,11 @@ use Rattle.genie_model.specs.Sending.{change_device, with_sent, must_stage, send
 use Rattle.genie_model.specs.Receiving.{recv}
 use Rattle.genie_model.specs.Ending.{finish_copy, finish_share, finish_move, finish_weak_move, finish_input, finish_owned, finish_for, finish_found, after_cancel, cancel_found, without_transfer, region_of}
 use Rattle.genie_model.specs.Step.{Outcome, answer, marked, accept, perform, failed, may_fail, uses_store, with_budget}
-use Rattle.genie_model.proofs.Quiet.{recv_quiet}
+use Rattle.genie_model.proofs.Keeping.{steps_keep_config}
+use Rattle.genie_model.proofs.Quiet.{table_shapes, recv_quiet}
 
 kept : (s t : State) → t.devices ≡ s.devices → t.next ≤ s.next + 1 → Grows s t
-kept s t same next = record { sent = λ d. ([], ap (λ (l : List (Option Device)). sent_by (entry l d)) same ∙ sym (append-nil (sent_of s d))); next = next }
+kept s t same next = record { devices = λ d. ap (λ (l : List (Option Device)). shape_of (entry l d)) same; sent = λ d. ([], ap (λ (l : List (Option Device)). sent_by (entry l d)) same ∙ sym (append-nil (sent_of s d))); next = next }
 
 unchanged : (s : State) → Grows s s
 unchanged s = kept s s refl (omega arith)
@@ -94,6 +96,10 @@ device_sent : (bytes : List ℕ) (x : Option Device) → (more : List ℕ) × (s
 device_sent bytes None = ([], refl)
 device_sent bytes (Some v) = (bytes, refl)
 
+device_shape : (bytes : List ℕ) (x : Option Device) → shape_of (change_device (with_sent bytes) x) ≡ shape_of x
+device_shape bytes None = refl
+device_shape bytes (Some v) = refl
+
 table_sent : (bytes : List ℕ) (xs : List (Option Device)) (d n : ℕ) → (more : List ℕ) × (sent_by (entry (slice_set xs d (change_device (with_sent bytes) (entry xs d))) n) ≡ sent_by (entry xs n) ++ more)
 table_sent bytes [] d n = ([], refl)
 table_sent bytes (x ∷ xs) zero zero = device_sent bytes x
@@ -103,13 +109,13 @@ table_sent bytes (x ∷ xs) (suc d) (suc n) = table_sent bytes xs d n
 
 send_plain : (s : State) (d n : ℕ) (o : Option Transfer) → IsPlain s (send_next s d n o)
 send_plain s d n None = plain s _ _ refl (omega arith) refl
-send_plain s d n (Some t) = choice s (must_stage s d t) _ _ (plain s _ _ refl (omega arith) refl) (record { grows = record { sent = λ k. table_sent _ s.devices d k; next = omega arith }; shows = refl })
+send_plain s d n (Some t) = choice s (must_stage s d t) _ _ (plain s _ _ refl (omega arith) refl) (record { grows = record { devices = λ k. table_shapes (with_sent _) s.devices d k (device_shape _ (entry s.devices d)); sent = λ k. table_sent _ s.devices d k; next = omega arith }; shows = refl })
 
 recv_plain : (s : State) (d n : ℕ) → IsPlain s (recv s d n)
 recv_plain s d n =
     let quiet = recv_quiet s d n in
     let next = quiet.keeps.next in
-    record { grows = record { sent = λ k. ([], quiet.keeps.sent k ∙ sym (append-nil (sent_of s k))); next = omega arith }; shows = quiet.shows }
+    record { grows = record { devices = quiet.keeps.devices; sent = λ k. ([], quiet.keeps.sent k ∙ sym (append-nil (sent_of s k))); next = omega arith }; shows = quiet.shows }
 
 landing_devices : (s : State) (t : Transfer) (r : Region) (b : Bool) → (if b then s else put s r.number t.offset t.payload).devices ≡ s.devices
 landing_devices s t r true = refl
@@ -151,7 +157,7 @@ finish_for_plain s t (Some p) = finish_owned_plain s p t t.direction
 
 finish_plain : (s : State) (k : ℕ) (o : Option Transfer) → IsPlain s (finish_found s k o)
 finish_plain s k None = plain s _ _ refl (omega arith) refl
-finish_plain s k (Some t) = let p = finish_for_plain (without_transfer s k) t t.owner in record { grows = record { sent = p.grows.sent; next = p.grows.next }; shows = p.shows }
+finish_plain s k (Some t) = let p = finish_for_plain (without_transfer s k) t t.owner in record { grows = record { devices = p.grows.devices; sent = p.grows.sent; next = p.grows.next }; shows = p.shows }
 
 after_cancel_plain : (s : State) (class : Class) (o : Option Region) → IsPlain s (after_cancel s class o, reply.Okay)
 after_cancel_plain s class None = plain s _ _ refl (omega arith) refl
@@ -162,7 +168,7 @@ after_cancel_plain s WeakMove (Some r) = plain s _ _ refl (omega arith) refl
 
 cancel_plain : (s : State) (k : ℕ) (o : Option Transfer) → IsPlain s (cancel_found s k o)
 cancel_plain s k None = plain s _ _ refl (omega arith) refl
-cancel_plain s k (Some t) = let p = after_cancel_plain (without_transfer s k) t.class (region_of s t) in record { grows = record { sent = p.grows.sent; next = p.grows.next }; shows = p.shows }
+cancel_plain s k (Some t) = let p = after_cancel_plain (without_transfer s k) t.class (region_of s t) in record { grows = record { devices = p.grows.devices; sent = p.grows.sent; next = p.grows.next }; shows = p.shows }
 
 perform_plain : (s : State) (e : Event) → IsPlain s (perform s e)
 perform_plain s (Spawn p) = plain s _ _ refl (omega arith) refl
@@ -183,7 +189,7 @@ perform_plain s (Cancel k) = cancel_plain s k (pending s k)
 perform_plain s (Pageout n) = plain s _ _ refl (omega arith) refl
 
 accept_plain : (s : State) (e : Event) → IsPlain s (accept s e)
-accept_plain s e = let p = perform_plain s e in record { grows = record { sent = p.grows.sent; next = p.grows.next }; shows = p.shows }
+accept_plain s e = let p = perform_plain s e in record { grows = record { devices = p.grows.devices; sent = p.grows.sent; next = p.grows.next }; shows = p.shows }
 
 outcome_grows : (s : State) (b : Bool) (x y : Outcome) → Grows s x.0 → Grows s y.0 → Grows s (if b then x else y).0
 outcome_grows s true x y g h = g
@@ -207,6 +213,9 @@ answer_grows s e m (Some refusal) = unchanged s
 
 pub steps_grow : StepsGrow
 steps_grow s e m = answer_grows s e m (refuse s e)
+
+pub devices_are_configs : Stays DevicesAreConfigs
+devices_are_configs s e m whole o d = let same = steps_keep_config s e m in (steps_grow s e m).devices d ∙ rw same (o.devices d)
 
 answer_shows : (s : State) (e : Event) (o : Option Refusal) → mark_of (answer s e mark.NoFault o).1 ≡ mark.NoFault
 answer_shows s e None = (accept_plain s e).shows

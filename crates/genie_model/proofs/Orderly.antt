@@ -1,6 +1,7 @@
 -- Every state that a run reaches is orderly.
-use Rattle.std.proofs.Common.{ℕ, ◌+◌, List, [], ◌∷◌, refl, sym, arith}
+use Rattle.std.proofs.Common.{◌≡◌, ℕ, zero, suc, ◌+◌, List, [], ◌∷◌, refl, sym, arith}
 use Rattle.std.specs.Prelude.{Option, Some, None, IsTrue, All}
+use Rattle.std.specs.Option.{option_map}
 use Rattle.std.proofs.lemmas.List.Elements.{All-cons, All-head, All-tail, All-replicate}
 use Rattle.genie_base.specs.Configs.{Config, DeviceConfig, Fits}
 use Rattle.genie_base.specs.Events.{is_whole, mark_of}
@@ -8,11 +9,13 @@ use Rattle.genie_base.specs.declared.event.Event.{Event}
 use Rattle.genie_base.specs.declared.reply.Mark.{Mark}
 use Rattle.genie_base.specs.declared.reply.Reply.{Reply}
 use Rattle.genie_model.specs.Laws.{RunsStayOrderly}
-use Rattle.genie_model.specs.Orderly.{IsOrderly, AreApart, ReceivesForInput}
+use Rattle.genie_model.specs.Orderly.{IsOrderly, AreApart, shape_of, ReceivesForInput}
 use Rattle.genie_model.specs.Regions.{regions_of}
 use Rattle.genie_model.specs.State.{State, Process, boot, boot_device, boot_devices}
 use Rattle.genie_model.specs.Step.{step, Follows}
+use Rattle.genie_model.specs.Tables.{entry}
 use Rattle.genie_model.proofs.Distinct.{numbers_differ}
+use Rattle.genie_model.proofs.Growing.{devices_are_configs}
 use Rattle.genie_model.proofs.Holding.{held_for_one}
 use Rattle.genie_model.proofs.Keeping.{steps_keep_config}
 use Rattle.genie_model.proofs.Named.{orphans_are_named}
@@ -30,10 +33,17 @@ boot_matched s inputs d [] = λ k x l. absurd (omega arith)
 boot_matched s inputs d (None ∷ configs) = All-cons (ReceivesForInput s) None (boot_devices inputs (d + 1) configs) tt (boot_matched s inputs (d + 1) configs)
 boot_matched s inputs d (Some c ∷ configs) = All-cons (ReceivesForInput s) (boot_device inputs d (Some c)) (boot_devices inputs (d + 1) configs) tt (boot_matched s inputs (d + 1) configs)
 
+boot_devices_are : (inputs : ℕ → List ℕ) (n : ℕ) (configs : List (Option DeviceConfig)) (d : ℕ) → shape_of (entry (boot_devices inputs n configs) d) ≡ option_map (λ (c : DeviceConfig). (c.kind, c.depth)) (entry configs d)
+boot_devices_are inputs n [] d = refl
+boot_devices_are inputs n (None ∷ configs) zero = refl
+boot_devices_are inputs n (Some c ∷ configs) zero = refl
+boot_devices_are inputs n (c ∷ configs) (suc d) = boot_devices_are inputs (n + 1) configs d
+
 pub boot_is_orderly : (c : Config) (inputs : ℕ → List ℕ) → Fits c → IsOrderly (boot c inputs)
 boot_is_orderly c inputs fits = record {
   config = fits;
   places = refl;
+  devices = boot_devices_are inputs 0 c.devices;
   regions = All-replicate (λ (p : Option Process). AreApart c.page (regions_of p)) 16 None (none_apart c.page);
   wired = omega arith;
   committed = omega arith;
@@ -54,6 +64,7 @@ step_is_orderly s e m whole o =
     record {
       config = rw same o.config;
       places = places_stay s e m whole o;
+      devices = devices_are_configs s e m whole o;
       regions = regions_stay_apart s e m whole o;
       wired = wired_is_bounded s e m whole o;
       committed = committed_is_bounded s e m whole o;

@@ -13,13 +13,16 @@ use Rattle.genie_base.specs.declared.semantics.Class.TheVariants.{Move}
 use Rattle.genie_base.specs.declared.semantics.Semantics.{Semantics}
 use Rattle.genie_base.specs.declared.semantics.Semantics.TheVariants as semantics
 use Rattle.genie_model.specs.Flat.{sent_of}
-use Rattle.genie_model.specs.Orderly.{IsOrderly}
+use Rattle.genie_model.specs.Orderly.{shape_of, IsOrderly}
 use Rattle.genie_model.specs.Pending.{pending}
 use Rattle.genie_model.specs.State.{State, Transfer, boot}
 use Rattle.genie_model.specs.Step.{Outcome, step, Follows}
+use Rattle.genie_model.specs.Tables.{entry}
 
--- what a device has sent stays sent: a step only adds to it; and numbers of transfers rise by at most one
+-- devices keep their kinds and depths, and what they have sent stays sent: a step only adds to it; and numbers of
+-- transfers rise by at most one
 pub record Grows (old new : State) : Type 0 where
+  pub devices : (d : ℕ) → shape_of (entry new.devices d) ≡ shape_of (entry old.devices d)
   pub sent : (d : ℕ) → (more : List ℕ) × (sent_of new d ≡ sent_of old d ++ more)
   pub next : new.next ≤ old.next + 1
 

@@ -1,8 +1,10 @@
 -- What is so in every state that a run reaches.
 use Rattle.std.specs.Prelude.{◌≡◌, ◌≢◌, ◌⊎◌, ℕ, ◌+◌, ◌*◌, ◌<◌, ◌≤◌, Bool, true, false, IsTrue, ◌&&◌, ◌==◌, List, ◌++◌, length, map, flat_map, count_by, All, AllPairs, Option, None, Some, IfSome, ⊤}
 use Rattle.std.specs.List.{list_any}
-use Rattle.genie_base.specs.Configs.{Fits}
+use Rattle.std.specs.Option.{option_map}
+use Rattle.genie_base.specs.Configs.{DeviceConfig, Fits}
 use Rattle.genie_base.specs.Regions.{AreInOrder}
+use Rattle.genie_base.specs.declared.config.Kind.{Kind}
 use Rattle.genie_base.specs.declared.region.Area.{Area}
 use Rattle.genie_base.specs.declared.region.Area.TheVariants.{App, Sys}
 use Rattle.genie_base.specs.declared.region.RegionState.{RegionState}
@@ -14,6 +16,7 @@ use Rattle.genie_base.specs.declared.semantics.Direction.TheVariants.{Outward, I
 use Rattle.genie_model.specs.declared.datagram.Fate.{Fate}
 use Rattle.genie_model.specs.declared.datagram.Fate.TheVariants.{Matched, Skipped, Gathering}
 use Rattle.genie_model.specs.State.{State, Region, Orphan, Process, Transfer, Device, Datagram}
+use Rattle.genie_model.specs.Tables.{entry}
 use Rattle.genie_model.specs.Regions.{extent_of, regions_of, regions_at, is_here, is_region, region_numbered, orphan_numbered, committed}
 use Rattle.genie_model.specs.Pending.{names, wired, is_posted, is_inward}
 use Rattle.genie_model.specs.Space.{is_move, is_named, tidy}
@@ -151,10 +154,19 @@ ReceivesForInput s v = IfSome v (λ (d : Device). IfSome d.present (λ (g : Data
 abbrev pub MatchedAreInputs : State → Type 0
 MatchedAreInputs s = All (ReceivesForInput s) s.devices
 
+-- the kind and the depth of a device, where one is there
+abbrev pub shape_of : Option Device → Option (Kind × ℕ)
+shape_of v = option_map (λ (d : Device). (d.kind, d.depth)) v
+
+-- a device is there exactly where the configuration has one at its place, with the kind and the depth that it says
+abbrev pub DevicesAreConfigs : State → Type 0
+DevicesAreConfigs s = (d : ℕ) → shape_of (entry s.devices d) ≡ option_map (λ (c : DeviceConfig). (c.kind, c.depth)) (entry s.config.devices d)
+
 -- all of this
 pub record IsOrderly (s : State) : Type 0 where
   pub config : Fits s.config
   pub places : length s.processes ≡ 16
+  pub devices : DevicesAreConfigs s
   pub regions : RegionsAreApart s
   pub wired : WiredIsBounded s
   pub committed : CommittedIsBounded s

@@ -2,10 +2,11 @@
 ghost use Rattle.std.specs.Prelude.{◌≡◌, length};
 ghost use Rattle.genie_model.specs.Integrity.{OutputsKeepIntegrity, InputsKeepIntegrity, CoveredBytesStay};
 ghost use Rattle.genie_model.specs.Laws.{StepsGrow, PlainStepsShowNoFault, RefusalsChangeNothing, StepsKeepConfig, LevelsStepAlike, ThresholdsStepAlike, RunsAlike, RunsCount, MovesAreNotLost, Stays, RunsStayOrderly};
-ghost use Rattle.genie_model.specs.Orderly.{RegionsAreApart, WiredIsBounded, CommittedIsBounded, NumbersRise, NumbersDiffer, OrphansAreNamed, OrphansAreInOrder, OrphansAreTidy, RangesLie, HeldForOne, PostedAreInputs, MatchedAreInputs};
+ghost use Rattle.genie_model.specs.Orderly.{RegionsAreApart, WiredIsBounded, CommittedIsBounded, NumbersRise, NumbersDiffer, OrphansAreNamed, OrphansAreInOrder, OrphansAreTidy, RangesLie, HeldForOne, PostedAreInputs, MatchedAreInputs, DevicesAreConfigs};
 ghost use Rattle.genie_model.specs.Rows.{WorkedRows};
 
-/// What a device has sent stays sent, and numbers of transfers rise by at most one in a step.
+/// Devices keep their kinds and depths, what they have sent stays sent, and numbers of transfers rise by at most one in a
+/// step.
 #[tactic(auto, using(crate::proofs::Growing::steps_grow))]
 pub fn steps_grow()
     ensures { StepsGrow }
@@ -58,6 +59,12 @@ pub fn runs_count()
 #[tactic(auto, using(crate::proofs::Spacing::places_stay))]
 pub fn places_stay()
     ensures { Stays (λ s. length s.processes ≡ 16) }
+{}
+
+/// A device is there exactly where the configuration has one, with its kind and depth.
+#[tactic(auto, using(crate::proofs::Growing::devices_are_configs))]
+pub fn devices_are_configs()
+    ensures { Stays DevicesAreConfigs }
 {}
 
 /// Regions of one process never overlap and stay in the order of their start pages.
