@@ -15,7 +15,7 @@ use Rattle.genie_model.specs.declared.datagram.Fate.{Fate}
 use Rattle.genie_model.specs.declared.datagram.Fate.TheVariants.{Matched, Skipped, Gathering}
 use Rattle.genie_model.specs.declared.phase.Phase.TheVariants.{Moving, Ready}
 use Rattle.genie_model.specs.Integrity.{is_under_input, payload_place, payload_byte, Landed, InputsKeepIntegrity}
-use Rattle.genie_model.specs.Orderly.{OrphansAreInOrder, IsInput, GoesToInput, ReceivesForInput, IsOrderly}
+use Rattle.genie_model.specs.Orderly.{OrphanPlacesRise, IsInput, GoesToInput, ReceivesForInput, IsOrderly}
 use Rattle.genie_model.specs.State.{State, Transfer, Device, Datagram}
 use Rattle.genie_model.specs.Tables.{change, entry}
 use Rattle.genie_model.specs.Regions.{bytes_of}
@@ -142,7 +142,7 @@ module _ (s : State) (d : ℕ) (o : IsOrderly s) where
       there (Some old) = goes
 
   -- the bytes that fit a weak input are stored in places that it covers
-  landed_so : (t : State) → OrphansAreInOrder t → (u : Transfer) (x : ℕ) (new : List ℕ) (strong : Bool) (region : Option ℕ) → is_strong u.class ≡ strong → u.region ≡ region → IsKnown s u → is_inward u.direction ≡ true → Gives s d x new → Received s d t → Received s d (landed t u x new (if strong then None else region))
+  landed_so : (t : State) → OrphanPlacesRise t → (u : Transfer) (x : ℕ) (new : List ℕ) (strong : Bool) (region : Option ℕ) → is_strong u.class ≡ strong → u.region ≡ region → IsKnown s u → is_inward u.direction ≡ true → Gives s d x new → Received s d t → Received s d (landed t u x new (if strong then None else region))
   landed_so t order u x new true region c n known inward gives r = r
   landed_so t order u x new false None c n known inward gives r = r
   landed_so t order u x new false (Some k) c n known inward gives r = record {
@@ -167,13 +167,13 @@ module _ (s : State) (d : ℕ) (o : IsOrderly s) where
             payload = is.byte ∙ part_taken (u.len - x) is.index new within ∙ gives is.index (omega arith) ∙ ap (payload_byte (entry s.devices d)) from;
           }
 
-  land_in_so : (t : State) → OrphansAreInOrder t → (x : ℕ) (new : List ℕ) (found : Option Transfer) → ((u : Transfer) → found ≡ Some u → IsKnown s u × (is_inward u.direction ≡ true)) → Gives s d x new → Received s d t → Received s d (land_in t x new found)
+  land_in_so : (t : State) → OrphanPlacesRise t → (x : ℕ) (new : List ℕ) (found : Option Transfer) → ((u : Transfer) → found ≡ Some u → IsKnown s u × (is_inward u.direction ≡ true)) → Gives s d x new → Received s d t → Received s d (land_in t x new found)
   land_in_so t order x new None is gives r = r
   land_in_so t order x new (Some u) is gives r =
       let known = is u refl in
       changed_so (landed t u x new (landing u)) u.number (after_receiving x new) (record { like = λ v. refl; posted = λ v e. e }) (landed_so t order u x new (is_strong u.class) u.region refl refl known.0 known.1 gives r)
 
-  land_so : (t : State) → OrphansAreInOrder t → (x : ℕ) (new : List ℕ) (fate : Fate) → GoesToInput s fate → Gives s d x new → Received s d t → Received s d (land t x new fate)
+  land_so : (t : State) → OrphanPlacesRise t → (x : ℕ) (new : List ℕ) (fate : Fate) → GoesToInput s fate → Gives s d x new → Received s d t → Received s d (land t x new fate)
   land_so t order x new Skipped goes gives r = r
   land_so t order x new Gathering goes gives r = r
   land_so t order x new (Matched k) goes gives r = land_in_so t order x new (pending t k) (λ u e.
@@ -200,7 +200,7 @@ module _ (s : State) (d : ℕ) (o : IsOrderly s) where
       choice (Received s d) (k == 0) _ _ (complete_so (set_device t d over) g true 0 g.fate ended)
       (choice (Received s d) (g.moved == g.len) _ _ (complete_so (set_device t d over) g false k g.fate ended) (device_so t (record v { present = Some g }) goes r))
 
-  payload_so : (t : State) → OrphansAreInOrder t → (v : Device) (g : Datagram) (h b : ℕ) → GoesToInput s g.fate → Reads s d g.moved v.rest → Received s d t → Received s d (take_payload t d v g h b).0
+  payload_so : (t : State) → OrphanPlacesRise t → (v : Device) (g : Datagram) (h b : ℕ) → GoesToInput s g.fate → Reads s d g.moved v.rest → Received s d t → Received s d (take_payload t d v g h b).0
   payload_so t order v g h b goes reads r = go_on_so (land t g.moved (take b v.rest) g.fate) (record v { rest = drop b v.rest }) (after_bytes (take b v.rest) g) (h + b) goes
       (land_so t order g.moved (take b v.rest) g.fate goes (λ i lt. part_taken b i v.rest lt ∙ reads i) r)
 

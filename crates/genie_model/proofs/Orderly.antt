@@ -20,7 +20,7 @@ use Rattle.genie_model.proofs.Holding.{held_for_one}
 use Rattle.genie_model.proofs.Keeping.{steps_keep_config}
 use Rattle.genie_model.proofs.Named.{orphans_are_named}
 use Rattle.genie_model.proofs.Numbering.{numbers_rise}
-use Rattle.genie_model.proofs.Ordered.{orphans_in_order}
+use Rattle.genie_model.proofs.Ordered.{orphans_rise, orphan_places_rise}
 use Rattle.genie_model.proofs.Ranges.{ranges_lie}
 use Rattle.genie_model.proofs.Receivers.{posted_are_inputs, matched_are_inputs}
 use Rattle.genie_model.proofs.Spacing.{none_apart, places_stay, regions_stay_apart, committed_is_bounded}
@@ -50,6 +50,7 @@ boot_is_orderly c inputs fits = record {
   transfers = record { few = omega arith; order = λ i j d l m. absurd (omega arith); below = λ k d l. absurd (omega arith) };
   numbers = λ i j d l m. absurd (omega arith);
   orphans = λ k d l. absurd (omega arith);
+  rise = λ i j d l m. absurd (omega arith);
   order = λ k d l. absurd (omega arith);
   tidied = refl;
   ranges = λ k d l. absurd (omega arith);
@@ -71,7 +72,8 @@ step_is_orderly s e m whole o =
       transfers = numbers_rise s e m whole o;
       numbers = numbers_differ s e m whole o;
       orphans = orphans_are_named s e m whole o;
-      order = orphans_in_order s e m whole o;
+      rise = orphans_rise s e m whole o;
+      order = orphan_places_rise s e m whole o;
       tidied = orphans_tidy s e m whole o;
       ranges = ranges_lie s e m whole o;
       holds = held_for_one s e m whole o;

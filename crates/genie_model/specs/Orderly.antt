@@ -76,9 +76,13 @@ NumbersDiffer s = AllPairs (λ (a b : ℕ). a ≢ b) (numbers s)
 abbrev pub OrphansAreNamed : State → Type 0
 OrphansAreNamed s = All (λ (o : Orphan). IsTrue (is_named s.transfers o)) s.orphans
 
+-- orphans stand in the order of their numbers
+abbrev pub OrphansRise : State → Type 0
+OrphansRise s = AllPairs (λ (o p : Orphan). o.number < p.number) s.orphans
+
 -- the places of each orphan rise, none of them twice
-abbrev pub OrphansAreInOrder : State → Type 0
-OrphansAreInOrder s = All (λ (o : Orphan). AllPairs (λ (a b : ℕ × ℕ). a.0 < b.0) o.bytes) s.orphans
+abbrev pub OrphanPlacesRise : State → Type 0
+OrphanPlacesRise s = All (λ (o : Orphan). AllPairs (λ (a b : ℕ × ℕ). a.0 < b.0) o.bytes) s.orphans
 
 -- nothing is left of orphans but what pending weak transfers name and cover
 abbrev pub OrphansAreTidy : State → Type 0
@@ -173,7 +177,8 @@ pub record IsOrderly (s : State) : Type 0 where
   pub transfers : NumbersRise s
   pub numbers : NumbersDiffer s
   pub orphans : OrphansAreNamed s
-  pub order : OrphansAreInOrder s
+  pub rise : OrphansRise s
+  pub order : OrphanPlacesRise s
   pub tidied : OrphansAreTidy s
   pub ranges : RangesLie s
   pub holds : HeldForOne s

@@ -2,7 +2,7 @@
 ghost use Rattle.std.specs.Prelude.{◌≡◌, length};
 ghost use Rattle.genie_model.specs.Integrity.{OutputsKeepIntegrity, InputsKeepIntegrity, CoveredBytesStay};
 ghost use Rattle.genie_model.specs.Laws.{StepsGrow, PlainStepsShowNoFault, RefusalsChangeNothing, StepsKeepConfig, LevelsStepAlike, ThresholdsStepAlike, RunsAlike, RunsCount, MovesAreNotLost, Stays, RunsStayOrderly};
-ghost use Rattle.genie_model.specs.Orderly.{RegionsAreApart, WiredIsBounded, CommittedIsBounded, NumbersRise, NumbersDiffer, OrphansAreNamed, OrphansAreInOrder, OrphansAreTidy, RangesLie, HeldForOne, PostedAreInputs, MatchedAreInputs, DevicesAreConfigs};
+ghost use Rattle.genie_model.specs.Orderly.{RegionsAreApart, WiredIsBounded, CommittedIsBounded, NumbersRise, NumbersDiffer, OrphansAreNamed, OrphansRise, OrphanPlacesRise, OrphansAreTidy, RangesLie, HeldForOne, PostedAreInputs, MatchedAreInputs, DevicesAreConfigs};
 ghost use Rattle.genie_model.specs.Rows.{WorkedRows};
 
 /// Devices keep their kinds and depths, what they have sent stays sent, and numbers of transfers rise by at most one in a
@@ -101,10 +101,16 @@ pub fn orphans_are_named()
     ensures { Stays OrphansAreNamed }
 {}
 
+/// Orphans stand in the order of their numbers.
+#[tactic(auto, using(crate::proofs::Ordered::orphans_rise))]
+pub fn orphans_rise()
+    ensures { Stays OrphansRise }
+{}
+
 /// The places of each orphan rise, none of them twice.
-#[tactic(auto, using(crate::proofs::Ordered::orphans_in_order))]
-pub fn orphans_in_order()
-    ensures { Stays OrphansAreInOrder }
+#[tactic(auto, using(crate::proofs::Ordered::orphan_places_rise))]
+pub fn orphan_places_rise()
+    ensures { Stays OrphanPlacesRise }
 {}
 
 /// Nothing is left of orphans but what pending weak transfers name and cover.
