@@ -19,11 +19,12 @@ use Rattle.genie_model.specs.State.{State, Transfer, boot}
 use Rattle.genie_model.specs.Step.{Outcome, step, Follows}
 use Rattle.genie_model.specs.Tables.{entry}
 
--- devices keep their kinds and depths, and what they have sent stays sent: a step only adds to it; and numbers of
--- transfers rise by at most one
+-- devices keep their kinds and depths, and what they have sent stays sent: a step only adds to it; and the number of the
+-- next transfer stays or rises by one
 pub record Grows (old new : State) : Type 0 where
   pub devices : (d : ℕ) → shape_of (entry new.devices d) ≡ shape_of (entry old.devices d)
   pub sent : (d : ℕ) → (more : List ℕ) × (sent_of new d ≡ sent_of old d ++ more)
+  pub least : old.next ≤ new.next
   pub next : new.next ≤ old.next + 1
 
 abbrev pub StepsGrow : Type 0

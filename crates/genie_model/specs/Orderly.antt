@@ -119,8 +119,8 @@ abbrev pub holds : State → Option ℕ → ℕ → Bool
 holds s None k = false
 holds s (Some p) k = list_any (λ (r : Region). is_region k r && is_held r.state) (regions_at s p)
 
--- a weak transfer names a region or an orphan, and a strong one nothing; but a move input names the region that its owner
--- holds, until the owner is gone
+-- a weak transfer names a region or an orphan, and a strong one nothing; but a move input names the region that its
+-- owner holds, until the owner is gone
 abbrev pub MayName : State → Class → Direction → Option ℕ → Option ℕ → Type 0
 MayName s Copy direction owner region = region ≡ None
 MayName s Share direction owner region = IsTrue (is_here region)

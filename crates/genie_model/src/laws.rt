@@ -5,8 +5,8 @@ ghost use Rattle.genie_model.specs.Laws.{StepsGrow, PlainStepsShowNoFault, Refus
 ghost use Rattle.genie_model.specs.Orderly.{RegionsAreApart, WiredIsBounded, CommittedIsBounded, NumbersRise, NumbersDiffer, OrphansAreNamed, OrphansRise, OrphanPlacesRise, OrphansAreTidy, RangesLie, HeldForOne, PostedAreInputs, MatchedAreInputs, DevicesAreConfigs};
 ghost use Rattle.genie_model.specs.Rows.{WorkedRows};
 
-/// Devices keep their kinds and depths, what they have sent stays sent, and numbers of transfers rise by at most one in a
-/// step.
+/// In a step devices keep their kinds and depths, what they have sent stays sent, and the number of the next transfer stays
+/// or rises by one.
 #[tactic(auto, using(crate::proofs::Growing::steps_grow))]
 pub fn steps_grow()
     ensures { StepsGrow }
