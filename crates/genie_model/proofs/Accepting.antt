@@ -77,11 +77,11 @@ placed_span s a n (Some r) some low here =
 reached_span : (s : State) (p a n : ℕ) → Fits s.config → is_here (reach_of s p a n) ≡ true → span s.config.page (place_reached s (reach_of s p a n) a) n ≡ span s.config.page a n
 reached_span s p a n fits here = placed_span s a n (reach_of s p a n) (page_some s.config.page fits.page) (reached_start s.config.page a n (regions_at s p)) here
 
-none_holds : (rows : List (Bool × Refusal)) → first_cause rows ≡ None → All (λ (row : Bool × Refusal). row.0 ≡ false) rows
+pub none_holds : (rows : List (Bool × Refusal)) → first_cause rows ≡ None → All (λ (row : Bool × Refusal). row.0 ≡ false) rows
 none_holds [] e = All-nil (λ (row : Bool × Refusal). row.0 ≡ false)
 none_holds (x ∷ rows) e = let h = first_none x rows e in All-cons (λ (row : Bool × Refusal). row.0 ≡ false) x rows h.0 (none_holds rows h.1)
 
-second_holds : (a b : Bool) → not (a && b) ≡ false → b ≡ true
+pub second_holds : (a b : Bool) → not (a && b) ≡ false → b ≡ true
 second_holds true true e = refl
 second_holds true false e = absurd (cc)
 second_holds false b e = absurd (cc)

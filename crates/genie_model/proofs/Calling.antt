@@ -7,13 +7,14 @@ use Rattle.std.proofs.lemmas.List.{length-replicate}
 use Rattle.genie_base.specs.Configs.{Fits}
 use Rattle.genie_base.specs.Counts.{is_page_size}
 use Rattle.genie_base.specs.Posted.{Address}
+use Rattle.genie_base.specs.Transfers.{is_system}
 use Rattle.genie_base.specs.declared.region.RegionState.{RegionState}
 use Rattle.genie_base.specs.declared.region.RegionState.TheVariants.{Out, In, Held}
 use Rattle.genie_base.specs.declared.semantics.Class.{Class}
 use Rattle.genie_base.specs.declared.semantics.Class.TheVariants.{Copy, Share, Move, WeakMove}
 use Rattle.genie_model.specs.State.{State, Region, Process, Transfer}
 use Rattle.genie_model.specs.Tables.{entry}
-use Rattle.genie_model.specs.Regions.{regions_at, queue_of, is_region, region_numbered, fresh, reach_of, with_state}
+use Rattle.genie_model.specs.Regions.{regions_at, queue_of, is_here, is_region, region_numbered, fresh, reach_of, with_state}
 use Rattle.genie_model.specs.Pending.{is_just, names, add_transfer}
 use Rattle.genie_model.specs.Space.{zeros_at_place, add_region, is_move}
 use Rattle.genie_model.specs.Outputs.{place_reached, number_of, output_of, moved_out, after_output}
@@ -63,7 +64,7 @@ module _ (s : State) (p : ℕ) (to : Address) (a n : ℕ) (r : Region) (o : IsOr
   output_reached Move =
       let u = output_of s p Move to a n (Some r) in
       let t = add_transfer s u in
-      remove_stands t t.transfers (push_stands s t u refl tt (joins_none s.transfers u refl) h) o.numbers r reaches.there (still_free u refl)
+      remove_stands t t.transfers (push_stands s t u refl (λ inward. absurd (true≢false (sym inward))) (joins_none s.transfers u refl) h) o.numbers r reaches.there (still_free u refl)
   output_reached WeakMove =
       let u = output_of s p WeakMove to a n (Some r) in
       let t = add_transfer s u in
@@ -74,16 +75,13 @@ module _ (s : State) (p : ℕ) (to : Address) (a n : ℕ) (r : Region) (o : IsOr
       let v = input_of s p Share to n None (Some r.number) (place_reached s (Some r) a) in
       push_stands s (add_transfer s v) v refl (reached_lies v refl refl) (joins_weak s.transfers v r.number refl refl reached_free) h)
 
-pub output_stands : (s : State) (p : ℕ) (class : Class) (to : Address) (a n : ℕ) (found : Option Region) → IsOrderly s → reach_of s p a n ≡ found → Stands s → Stands (after_output (add_transfer s (output_of s p class to a n found)) class found)
-output_stands s p class to a n (Some r) o e h = output_reached s p to a n r o e h class
-output_stands s p Copy to a n None o e h = let u = output_of s p Copy to a n None in push_stands s (add_transfer s u) u refl tt (joins_none s.transfers u refl) h
-output_stands s p Share to a n None o e h = let u = output_of s p Share to a n None in push_stands s (add_transfer s u) u refl tt (joins_none s.transfers u refl) h
-output_stands s p Move to a n None o e h = let u = output_of s p Move to a n None in push_stands s (add_transfer s u) u refl tt (joins_none s.transfers u refl) h
-output_stands s p WeakMove to a n None o e h = let u = output_of s p WeakMove to a n None in push_stands s (add_transfer s u) u refl tt (joins_none s.transfers u refl) h
+pub output_stands : (s : State) (p : ℕ) (class : Class) (to : Address) (a n : ℕ) (found : Option Region) → IsOrderly s → reach_of s p a n ≡ found → is_here found ≡ true → Stands s → Stands (after_output (add_transfer s (output_of s p class to a n found)) class found)
+output_stands s p class to a n (Some r) o e here h = output_reached s p to a n r o e h class
+output_stands s p class to a n None o e here h = absurd (true≢false (sym here))
 
-share_stands : (s : State) (p : ℕ) (to : Address) (a n : ℕ) (found : Option Region) → IsOrderly s → reach_of s p a n ≡ found → Stands s → Stands (add_transfer s (input_of s p Share to n None (number_of found) (place_reached s found a)))
-share_stands s p to a n None o e h = let u = input_of s p Share to n None None 0 in push_stands s (add_transfer s u) u refl tt (joins_none s.transfers u refl) h
-share_stands s p to a n (Some r) o e h = share_reached s p to a n r o e h (input_of s p Share to n None (Some r.number) (place_reached s (Some r) a)) refl
+share_stands : (s : State) (p : ℕ) (to : Address) (a n : ℕ) (found : Option Region) → IsOrderly s → reach_of s p a n ≡ found → is_here found ≡ true → Stands s → Stands (add_transfer s (input_of s p Share to n None (number_of found) (place_reached s found a)))
+share_stands s p to a n None o e here h = absurd (true≢false (sym here))
+share_stands s p to a n (Some r) o e here h = share_reached s p to a n r o e h (input_of s p Share to n None (Some r.number) (place_reached s (Some r) a)) refl
 
 page_some : (page : ℕ) → is_page_size page ≡ true → 0 < page
 page_some zero e = absurd (cc)
@@ -96,7 +94,7 @@ named_lies : (s : State) (u : Transfer) (class : Class) (named : Option ℕ) (k 
 named_lies s u class None k h e = absurd (true≢false (sym e))
 named_lies s u Copy (Some n) k h e = absurd h
 named_lies s u Share (Some n) k h e = subst (λ j. Lies s u (Some j)) (eqb-true n k e) h
-named_lies s u Move (Some n) k h e = subst (λ j. Lies s u (Some j)) (eqb-true n k e) (inl h.1)
+named_lies s u Move (Some n) k h e = subst (λ j. Lies s u (Some j)) (eqb-true n k e) (inl h.1.1)
 named_lies s u WeakMove (Some n) k h e = subst (λ j. Lies s u (Some j)) (eqb-true n k e) h
 
 free_unnamed : (s : State) (transfers : List Transfer) (k : ℕ) → IsFree s k → AreFine s transfers → list_any (names k) transfers ≡ false
@@ -141,10 +139,10 @@ module _ (s : State) (p : ℕ) (to : Address) (n : ℕ) (o : IsOrderly s) (x : P
       (joins_first s.transfers u k refl unnamed)
       (state_stands s s.transfers h t k (with_state In) (moved_in_place s k) unmoved)
 
-  pub input_stands : (class : Class) (addr : Option ℕ) → Stands (add_transfer (with_buffer s p class n) (posted s p class to addr n))
-  input_stands Copy addr = let u = input_of s p Copy to n addr None 0 in push_stands s (add_transfer s u) u refl tt (joins_none s.transfers u refl) h
-  input_stands Share addr = share_stands s p to (address_or_zero addr) n (reach_of s p (address_or_zero addr) n) o refl h
-  input_stands Move addr =
+  pub input_stands : (class : Class) (addr : Option ℕ) → (is_system class ≡ false → is_here (reach_of s p (address_or_zero addr) n) ≡ true) → Stands (add_transfer (with_buffer s p class n) (posted s p class to addr n))
+  input_stands Copy addr here = let u = input_of s p Copy to n addr None 0 in push_stands s (add_transfer s u) u refl tt (joins_none s.transfers u refl) h
+  input_stands Share addr here = share_stands s p to (address_or_zero addr) n (reach_of s p (address_or_zero addr) n) o refl (here refl) h
+  input_stands Move addr here =
       let u = input_of s p Move to n None (Some (fresh s)) 0 in
-      made_stands Held u refl (added_held s p (zeros_at_place s Held p (pages_for s n)) free_number x alive refl, made_lies Held u refl refl)
-  input_stands WeakMove addr = weak_stands (reusable s p (pages_for s n)) refl
+      made_stands Held u refl (refl, (added_held s p (zeros_at_place s Held p (pages_for s n)) free_number x alive refl, made_lies Held u refl refl))
+  input_stands WeakMove addr here = weak_stands (reusable s p (pages_for s n)) refl

@@ -17,7 +17,7 @@ use Rattle.genie_model.specs.declared.datagram.Fate.{Fate}
 use Rattle.genie_model.specs.declared.datagram.Fate.TheVariants.{Matched, Skipped, Gathering}
 use Rattle.genie_model.specs.declared.phase.Phase.TheVariants.{Moving, Ready}
 use Rattle.genie_model.specs.Integrity.{is_under_input, next_header, is_to_come, payload_byte, byte_to_come, matched_to, met_by, met, Landed, InputsKeepIntegrity}
-use Rattle.genie_model.specs.Orderly.{OrphansAreInOrder, IsInput, GoesToInput, IsUnderWay, ReceivesForInput, IsOrderly}
+use Rattle.genie_model.specs.Orderly.{OrphanPlacesRise, IsInput, GoesToInput, IsUnderWay, ReceivesForInput, IsOrderly}
 use Rattle.genie_model.specs.State.{State, Transfer, Device, Datagram}
 use Rattle.genie_model.specs.Tables.{change, entry}
 use Rattle.genie_model.specs.Regions.{bytes_of}
@@ -150,7 +150,7 @@ module _ (s : State) (d : ℕ) (o : IsOrderly s) where
       there (Some old) = goes
 
   -- the bytes that fit a weak input are stored in places that it covers
-  landed_so : (t : State) → OrphansAreInOrder t → (u : Transfer) (x : ℕ) (new : List ℕ) (strong : Bool) (region : Option ℕ) → is_strong u.class ≡ strong → u.region ≡ region → IsKnown s u → (is_inward u.direction ≡ true) × (u.device ≡ d) → met s d (entry s.devices d) ≡ Some u.number → Gives s d x new → Received s d t → Received s d (landed t u x new (if strong then None else region))
+  landed_so : (t : State) → OrphanPlacesRise t → (u : Transfer) (x : ℕ) (new : List ℕ) (strong : Bool) (region : Option ℕ) → is_strong u.class ≡ strong → u.region ≡ region → IsKnown s u → (is_inward u.direction ≡ true) × (u.device ≡ d) → met s d (entry s.devices d) ≡ Some u.number → Gives s d x new → Received s d t → Received s d (landed t u x new (if strong then None else region))
   landed_so t order u x new true region c n known inward aims gives r = r
   landed_so t order u x new false None c n known inward aims gives r = r
   landed_so t order u x new false (Some k) c n known inward aims gives r = record {
@@ -178,13 +178,13 @@ module _ (s : State) (d : ℕ) (o : IsOrderly s) where
             payload = is.byte ∙ part_taken (u.len - x) is.index new within ∙ gives is.index (omega arith) ∙ ap (payload_byte (entry s.devices d)) from;
           }
 
-  land_in_so : (t : State) → OrphansAreInOrder t → (x : ℕ) (new : List ℕ) (found : Option Transfer) → ((u : Transfer) → found ≡ Some u → IsKnown s u × ((is_inward u.direction ≡ true) × (u.device ≡ d)) × (met s d (entry s.devices d) ≡ Some u.number)) → Gives s d x new → Received s d t → Received s d (land_in t x new found)
+  land_in_so : (t : State) → OrphanPlacesRise t → (x : ℕ) (new : List ℕ) (found : Option Transfer) → ((u : Transfer) → found ≡ Some u → IsKnown s u × ((is_inward u.direction ≡ true) × (u.device ≡ d)) × (met s d (entry s.devices d) ≡ Some u.number)) → Gives s d x new → Received s d t → Received s d (land_in t x new found)
   land_in_so t order x new None is gives r = r
   land_in_so t order x new (Some u) is gives r =
       let known = is u refl in
       changed_so (landed t u x new (landing u)) u.number (after_receiving x new) (record { like = λ v. refl; posted = λ v e. e }) (landed_so t order u x new (is_strong u.class) u.region refl refl known.0 known.1 known.2 gives r)
 
-  land_so : (t : State) → OrphansAreInOrder t → (x : ℕ) (new : List ℕ) (fate : Fate) → GoesToInput s d fate → Aims s d fate → Gives s d x new → Received s d t → Received s d (land t x new fate)
+  land_so : (t : State) → OrphanPlacesRise t → (x : ℕ) (new : List ℕ) (fate : Fate) → GoesToInput s d fate → Aims s d fate → Gives s d x new → Received s d t → Received s d (land t x new fate)
   land_so t order x new Skipped goes aims gives r = r
   land_so t order x new Gathering goes aims gives r = r
   land_so t order x new (Matched k) goes aims gives r = land_in_so t order x new (pending t k) (λ u e.
@@ -213,7 +213,7 @@ module _ (s : State) (d : ℕ) (o : IsOrderly s) where
       (λ _. complete_so (set_device t d over) g false k g.fate ended)
       (λ less. device_so t (record v { present = Some g }) (record { left = grind (arith, nat_tests, less, most); input = goes }) r))
 
-  payload_so : (t : State) → OrphansAreInOrder t → (v : Device) (g : Datagram) (h b : ℕ) → g.moved + b ≤ g.len → GoesToInput s d g.fate → Aims s d g.fate → Reads s d g.moved g.len v.rest → Received s d t → Received s d (take_payload t d v g h b).0
+  payload_so : (t : State) → OrphanPlacesRise t → (v : Device) (g : Datagram) (h b : ℕ) → g.moved + b ≤ g.len → GoesToInput s d g.fate → Aims s d g.fate → Reads s d g.moved g.len v.rest → Received s d t → Received s d (take_payload t d v g h b).0
   payload_so t order v g h b fit goes aims reads r =
       let few = length-take b v.rest in
       go_on_so (land t g.moved (take b v.rest) g.fate) (record v { rest = drop b v.rest }) (after_bytes (take b v.rest) g) (h + b) (omega (arith, few, fit)) goes

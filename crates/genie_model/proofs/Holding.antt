@@ -1,4 +1,4 @@
--- Strong transfers name held regions alone, and no other transfer names those, after every step.
+-- Each transfer names what it may, and what a move input names no other one does, after every step.
 use Rattle.genie_model.specs.Laws.{Stays}
 use Rattle.genie_model.specs.Orderly.{HeldForOne}
 use Rattle.genie_model.proofs.Serving.{step_well}

@@ -7,7 +7,7 @@ use Rattle.std.proofs.lemmas.Bool.Decides.{nat_tests}
 use Rattle.std.proofs.lemmas.List.Elements.{All-tail, All-map}
 use Rattle.genie_base.specs.Bytes.{overlaid, part}
 use Rattle.genie_model.specs.State.{State, Region, Orphan}
-use Rattle.genie_model.specs.Orderly.{OrphansAreInOrder}
+use Rattle.genie_model.specs.Orderly.{OrphanPlacesRise}
 use Rattle.genie_model.specs.Regions.{is_region, is_orphan, region_numbered, orphan_numbered, is_within_range, bytes_within, orphan_part, region_part, bytes_of, changed, with_bytes, stored_at, stored_in_orphan, put}
 use Rattle.genie_model.proofs.Beside.{IsOutside, put_beside}
 use Rattle.genie_model.proofs.Changing.{put_in_place}
@@ -71,7 +71,7 @@ module _ (x i y : ℕ) (new : List ℕ) (place : x + i ≡ y) (within : i < leng
   region_inside k None old now is h = h
   region_inside k (Some r) old now is h = let number = is r refl in rw number (part_inside x i y new r.bytes place within)
 
-  put_inside : (s : State) (k : ℕ) → OrphansAreInOrder s → Either (bytes_of s k y 1) (part i 1 new) (bytes_of (put s k x new) k y 1)
+  put_inside : (s : State) (k : ℕ) → OrphanPlacesRise s → Either (bytes_of s k y 1) (part i 1 new) (bytes_of (put s k x new) k y 1)
   put_inside s k order =
       let region_same = λ (r : Region). cond_both (r.number == k) (with_bytes x new r) r (λ (q : Region). is_region k q ≡ is_region k r) (λ _. refl) (λ _. refl) in
       let orphan_same = λ (o : Orphan). cond_both (o.number == k) (record o { bytes = map (stored_at x new) o.bytes }) o (λ (q : Orphan). is_orphan k q ≡ is_orphan k o) (λ _. refl) (λ _. refl) in
@@ -90,7 +90,7 @@ pub record IsNew (k x : ℕ) (new : List ℕ) (j y : ℕ) (now : List ℕ) : Typ
   pub byte : now ≡ part index 1 new
 
 -- other bytes stay
-pub put_gives : (s : State) (k x j y : ℕ) (new : List ℕ) → OrphansAreInOrder s → (bytes_of (put s k x new) j y 1 ≡ bytes_of s j y 1) ⊎ IsNew k x new j y (bytes_of (put s k x new) j y 1)
+pub put_gives : (s : State) (k x j y : ℕ) (new : List ℕ) → OrphanPlacesRise s → (bytes_of (put s k x new) j y 1 ≡ bytes_of s j y 1) ⊎ IsNew k x new j y (bytes_of (put s k x new) j y 1)
 put_gives s k x j y new order =
     let Given : ℕ → Type 0 = λ n. (bytes_of (put s k x new) n y 1 ≡ bytes_of s n y 1) ⊎ IsNew k x new n y (bytes_of (put s k x new) n y 1) in
     let beside : (j ≡ k → IsOutside x (length new) y) → Given j = λ out. inl (put_beside k x j y new out s) in

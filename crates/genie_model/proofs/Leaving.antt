@@ -21,9 +21,9 @@ use Rattle.genie_model.proofs.Naming.{any_kept, count_kept, fewer, fine_in}
 -- a transfer without its owner
 gone_fine : (s t : State) (u : Transfer) (class : Class) (named new : Option ℕ) → KeepsLies s t → new ≡ (if is_move class then None else named) → Fine s u class named → Fine t (record u { owner = None; region = new }) class new
 gone_fine s t u Copy None new lies e h = rw e tt
-gone_fine s t u Share None new lies e h = rw e tt
-gone_fine s t u WeakMove None new lies e h = rw e tt
-gone_fine s t u Move named new lies e h = rw e tt
+gone_fine s t u Share None new lies e h = absurd h
+gone_fine s t u WeakMove None new lies e h = absurd h
+gone_fine s t u Move named new lies e h = rw e (λ inward. refl)
 gone_fine s t u Copy (Some k) new lies e h = absurd h
 gone_fine s t u Share (Some k) new lies e h = rw e (lies u k h)
 gone_fine s t u WeakMove (Some k) new lies e h = rw e (lies u k h)

@@ -39,6 +39,7 @@ pub mod Numbering
 pub mod Ordered
 pub mod Orderly
 pub mod Orphaned
+pub mod Owned
 pub mod Placing
 pub mod Queueing
 pub mod Queues

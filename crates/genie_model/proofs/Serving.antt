@@ -1,10 +1,10 @@
 -- What transfers name is there after every step.
-use Rattle.std.proofs.Common.{◌≡◌, ℕ, ◌<◌, Bool, true, false, not, ◌||◌, List, [], ◌∷◌, length, refl, arith}
-use Rattle.std.specs.Prelude.{Option, Some, None, ⊤, nat_lt, sum_by, ◌==◌}
+use Rattle.std.proofs.Common.{◌≡◌, ℕ, ◌<◌, Bool, true, false, not, List, length, refl, true≢false, arith}
+use Rattle.std.specs.Prelude.{Option, Some, None, ⊤, nat_lt, ◌==◌}
 use Rattle.std.proofs.lemmas.Bool.{cond_both, and_parts, or_parts}
 use Rattle.std.proofs.lemmas.Bool.Decides.{nat_tests}
 use Rattle.genie_base.specs.Regions.{is_accessible}
-use Rattle.genie_base.specs.Transfers.{class_of}
+use Rattle.genie_base.specs.Transfers.{class_of, is_system}
 use Rattle.genie_base.specs.declared.event.Event.{Event}
 use Rattle.genie_base.specs.declared.event.Event.TheVariants.{Spawn, Fork, Exit, Map, Alloc, Unmap, Protect, Read, Write, Output, Input, Send, Recv, Finish, Cancel, Pageout}
 use Rattle.genie_base.specs.declared.refusal.Refusal.{Refusal}
@@ -13,15 +13,19 @@ use Rattle.genie_base.specs.declared.region.Area.TheVariants.{App}
 use Rattle.genie_base.specs.declared.region.RegionState.TheVariants.{Live}
 use Rattle.genie_base.specs.declared.reply.Mark.{Mark}
 use Rattle.genie_base.specs.declared.reply.Mark.TheVariants as mark
-use Rattle.genie_model.specs.Refusing.{first_cause, causes, over_backing, accessible_pages, refuse}
+use Rattle.genie_base.specs.declared.semantics.Class.{Class}
+use Rattle.genie_base.specs.declared.semantics.Class.TheVariants.{Copy, Share, Move, WeakMove}
+use Rattle.genie_model.specs.Refusing.{first_cause, causes, target_causes, refuse}
 use Rattle.genie_model.specs.State.{State, Region}
 use Rattle.genie_model.specs.Tables.{entry}
 use Rattle.genie_model.specs.Regions.{regions_at, is_here, is_alive, place_in, reach_of}
 use Rattle.genie_model.specs.Pending.{pending}
+use Rattle.genie_model.specs.Inputs.{address_or_zero}
 use Rattle.genie_model.specs.Space.{zeros, zeros_at_place, remove_found, region_from, starts_at, protect_found, stored}
 use Rattle.genie_model.specs.Step.{Outcome, perform, accept, may_fail, uses_store, with_budget, failed, marked, answer, step}
 use Rattle.genie_model.specs.Orderly.{RangesLie, HeldForOne, IsOrderly}
-use Rattle.genie_model.proofs.Causes.{first_none}
+use Rattle.genie_model.proofs.Accepting.{none_holds, second_holds}
+use Rattle.genie_model.proofs.Causes.{both_none}
 use Rattle.genie_model.proofs.Having.{find_has}
 use Rattle.genie_model.proofs.Finding.{has_region}
 use Rattle.genie_model.proofs.Standing.{orderly_stand, accessible_free, tidied_ranges, tidied_holds}
@@ -36,7 +40,8 @@ use Rattle.genie_model.proofs.Unused.{few_numbers}
 abbrev Allowed : State → Event → Type 0
 Allowed s (Spawn p) = entry s.processes p ≡ None
 Allowed s (Fork p q) = (q < 16) × (entry s.processes q ≡ None)
-Allowed s (Input p sem d port flow a n) = is_alive s p ≡ true
+Allowed s (Output p sem d port flow a n) = is_here (reach_of s p a n) ≡ true
+Allowed s (Input p sem d port flow a n) = (is_alive s p ≡ true) × (is_system (class_of sem) ≡ false → is_here (reach_of s p (address_or_zero a) n) ≡ true)
 Allowed s _ = ⊤
 
 none_here : {X : Type 0} (o : Option X) → is_here o ≡ false → o ≡ None
@@ -51,24 +56,23 @@ not_false : (b : Bool) → not b ≡ false → b ≡ true
 not_false true e = refl
 not_false false e = absurd (cc)
 
-first_test : List (Bool × Refusal) → Bool
-first_test [] = false
-first_test (x ∷ rows) = x.0
-
-first_fails : (rows : List (Bool × Refusal)) → first_cause rows ≡ None → first_test rows ≡ false
-unfolding first_test
-first_fails [] h = refl
-first_fails (x ∷ rows) h = (first_none x rows h).0
+-- a buffer of the application's is reached
+app_here : (s : State) (p : ℕ) (class : Class) (d a n : ℕ) → first_cause (target_causes s p class d a n) ≡ None → is_system class ≡ false → is_here (reach_of s p a n) ≡ true
+app_here s p Copy d a n e app = second_holds _ _ (none_holds (target_causes s p Copy d a n) e 2 (true, cause.Proc) (omega arith))
+app_here s p Share d a n e app = second_holds _ _ (none_holds (target_causes s p Share d a n) e 2 (true, cause.Proc) (omega arith))
+app_here s p Move d a n e app = absurd (true≢false app)
+app_here s p WeakMove d a n e app = absurd (true≢false app)
 
 allowed : (s : State) (e : Event) → refuse s e ≡ None → Allowed s e
-unfolding first_test
-allowed s (Spawn p) h = none_here (entry s.processes p) (first_none (is_alive s p, cause.Exists) [] (first_none (nat_lt 15 p, cause.Proc) ((is_alive s p, cause.Exists) ∷ []) h).1).0
+allowed s (Spawn p) h = none_here (entry s.processes p) (none_holds (causes s (Spawn p)) h 1 (true, cause.Proc) (omega arith))
 allowed s (Fork p q) h =
-    let last : List (Bool × Refusal) = (over_backing s (sum_by accessible_pages (regions_at s p)), cause.Backing) ∷ [] in
-    let first = first_none (not (is_alive s p) || nat_lt 15 q, cause.Proc) ((is_alive s q, cause.Exists) ∷ last) h in
-    let high = (or_parts (not (is_alive s p)) (nat_lt 15 q) first.0).1 in
-    (grind (arith, nat_tests), none_here (entry s.processes q) (first_none (is_alive s q, cause.Exists) last first.1).0)
-allowed s (Input p sem d port flow a n) h = not_false (is_alive s p) (first_fails (causes s (Input p sem d port flow a n)) h)
+    let none = none_holds (causes s (Fork p q)) h in
+    let high = (or_parts (not (is_alive s p)) (nat_lt 15 q) (none 0 (true, cause.Proc) (omega arith))).1 in
+    (grind (arith, nat_tests), none_here (entry s.processes q) (none 1 (true, cause.Proc) (omega arith)))
+allowed s (Output p sem d port flow a n) h = second_holds _ _ (none_holds (causes s (Output p sem d port flow a n)) h 2 (true, cause.Proc) (omega arith))
+allowed s (Input p sem d port flow a n) h =
+    let none = (both_none (target_causes s p (class_of sem) d (address_or_zero a) n) _ h).0 in
+    (not_false (is_alive s p) (none_holds (target_causes s p (class_of sem) d (address_or_zero a) n) none 0 (true, cause.Proc) (omega arith)), app_here s p (class_of sem) d (address_or_zero a) n none)
 allowed s e h = tt
 
 remove_stands_found : (s : State) (p g : ℕ) (o : Option Region) → IsOrderly s → region_from s p g ≡ o → Stands s → Stands (remove_found s o)
@@ -96,8 +100,8 @@ perform_stands s (Unmap p g) o may h = remove_stands_found s p g (region_from s 
 perform_stands s (Protect p g writable) o may h = protect_found_stands s (region_from s p g) writable h
 perform_stands s (Read p a n) o may h = h
 perform_stands s (Write p a bytes) o may h = stored_stands s (reach_of s p a (length bytes)) a bytes h
-perform_stands s (Output p sem d port flow a n) o may h = output_stands s p (class_of sem) (record { device = d; port = port; flow = flow }) a n (reach_of s p a n) o refl h
-perform_stands s (Input p sem d port flow a n) o may h = let x = alive_entry (entry s.processes p) may in input_stands s p (record { device = d; port = port; flow = flow }) n o x.0 x.1 h (class_of sem) a
+perform_stands s (Output p sem d port flow a n) o may h = output_stands s p (class_of sem) (record { device = d; port = port; flow = flow }) a n (reach_of s p a n) o refl may h
+perform_stands s (Input p sem d port flow a n) o may h = let x = alive_entry (entry s.processes p) may.0 in input_stands s p (record { device = d; port = port; flow = flow }) n o x.0 x.1 h (class_of sem) a may.1
 perform_stands s (Send d n) o may h = sent_stands s d n h
 perform_stands s (Recv d n) o may h = received_stands s d n h
 perform_stands s (Finish k) o may h = finished_stands s k (pending s k) refl h

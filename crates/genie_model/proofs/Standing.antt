@@ -6,12 +6,14 @@ use Rattle.std.specs.List.{list_any}
 use Rattle.std.proofs.lemmas.Bool.{and_parts, and_from, false_from_ne_true}
 use Rattle.genie_base.specs.declared.semantics.Class.{Class}
 use Rattle.genie_base.specs.declared.semantics.Class.TheVariants.{Copy, Share, Move, WeakMove}
+use Rattle.genie_base.specs.declared.semantics.Direction.{Direction}
+use Rattle.genie_base.specs.declared.semantics.Direction.TheVariants.{Outward, Inward}
 use Rattle.genie_base.specs.declared.region.RegionState.{RegionState}
 use Rattle.genie_base.specs.declared.region.RegionState.TheVariants.{Live, Out, In, Held}
 use Rattle.genie_base.specs.Regions.{is_accessible}
 use Rattle.genie_model.specs.State.{State, Region, Orphan, Transfer}
 use Rattle.genie_model.specs.Regions.{regions_at, is_region, is_orphan, region_numbered, orphan_numbered}
-use Rattle.genie_model.specs.Pending.{is_just, names, names_weakly, covers}
+use Rattle.genie_model.specs.Pending.{is_inward, is_just, names, names_weakly, covers}
 use Rattle.genie_model.specs.Space.{is_move, is_named, cut, tidy}
 use Rattle.genie_model.specs.Orderly.{LiesInRegion, LiesInOrphan, Lies, RangesLie, is_held, holds, MayName, moves_into, HeldForOne, NumbersDiffer, IsOrderly}
 use Rattle.genie_model.proofs.Having.{Has, all_has, has_at, any_has, has_any, none_from, find_has, find_map, find_filter, find_none, any_filter}
@@ -21,12 +23,15 @@ use Rattle.genie_model.proofs.Finding.{all_of, has_region, differ, only_region, 
 abbrev pub Holds : State → Transfer → ℕ → Type 0
 Holds s u k = IsTrue (holds s u.owner k) × LiesInRegion u (region_numbered s k)
 
--- of the weak ones region or orphan
+-- other strong ones and move inputs without an owner name nothing, and weak ones region or orphan
 abbrev pub Fine : State → Transfer → Class → Option ℕ → Type 0
-Fine s u class None = ⊤
+Fine s u Copy None = ⊤
+Fine s u Share None = ⊥
+Fine s u Move None = IsTrue (is_inward u.direction) → u.owner ≡ None
+Fine s u WeakMove None = ⊥
 Fine s u Copy (Some k) = ⊥
 Fine s u Share (Some k) = Lies s u (Some k)
-Fine s u Move (Some k) = Holds s u k
+Fine s u Move (Some k) = IsTrue (is_inward u.direction) × Holds s u k
 Fine s u WeakMove (Some k) = Lies s u (Some k)
 
 -- what a move input names no other transfer does
@@ -47,13 +52,13 @@ abbrev pub KeepsHeld : State → State → ℕ → Type 0
 KeepsHeld s t k = (u : Transfer) → Holds s u k → Holds t u k
 
 pub fine_stays : (s t : State) (u : Transfer) (class : Class) (named : Option ℕ) → KeepsLies s t → ((k : ℕ) → (is_move class && is_just named k) ≡ true → Holds s u k → Holds t u k) → Fine s u class named → Fine t u class named
-fine_stays s t u Copy None lies held h = tt
-fine_stays s t u Share None lies held h = tt
-fine_stays s t u Move None lies held h = tt
-fine_stays s t u WeakMove None lies held h = tt
+fine_stays s t u Copy None lies held h = h
+fine_stays s t u Share None lies held h = h
+fine_stays s t u Move None lies held h = h
+fine_stays s t u WeakMove None lies held h = h
 fine_stays s t u Copy (Some k) lies held h = h
 fine_stays s t u Share (Some k) lies held h = lies u k h
-fine_stays s t u Move (Some k) lies held h = held k (eq-eqb k k refl) h
+fine_stays s t u Move (Some k) lies held h = (h.0, held k (eq-eqb k k refl) h.1)
 fine_stays s t u WeakMove (Some k) lies held h = lies u k h
 
 pub stand_stays : (s t : State) (transfers : List Transfer) → KeepsLies s t → ((k : ℕ) → KeepsHeld s t k) → Stand s transfers → Stand t transfers
@@ -68,15 +73,17 @@ stand_beside s t transfers j lies held none h = record {
   one = h.one;
 }
 
-may_name : (s : State) (u : Transfer) (class : Class) (named : Option ℕ) → Fine s u class named → MayName s u class named
-may_name s u Copy None h = tt
-may_name s u Share None h = tt
-may_name s u Move None h = tt
-may_name s u WeakMove None h = tt
-may_name s u Copy (Some k) h = h
-may_name s u Share (Some k) h = tt
-may_name s u Move (Some k) h = h.0
-may_name s u WeakMove (Some k) h = tt
+may_name : (s : State) (u : Transfer) (class : Class) (direction : Direction) (named : Option ℕ) → u.direction ≡ direction → Fine s u class named → MayName s class direction u.owner named
+may_name s u Copy direction None e h = refl
+may_name s u Copy direction (Some k) e h = absurd h
+may_name s u Share direction None e h = absurd h
+may_name s u Share direction (Some k) e h = refl
+may_name s u Move Outward None e h = refl
+may_name s u Move Outward (Some k) e h = absurd (true≢false (sym (rw e at h.0)))
+may_name s u Move Inward None e h = h (rw e refl)
+may_name s u Move Inward (Some k) e h = h.1.0
+may_name s u WeakMove direction None e h = absurd h
+may_name s u WeakMove direction (Some k) e h = refl
 
 pub held_region : (s : State) (o : Option ℕ) (k : ℕ) → IsTrue (holds s o k) → (r : Region) × Has r (all_of s.processes) × (r.number ≡ k) × (is_held r.state ≡ true)
 held_region s None k h = absurd (cc)
@@ -90,24 +97,26 @@ no_orphan_held s differs o k h =
     let held = held_region s o k h in
     find_none (is_orphan k) s.orphans (subst (λ n. list_any (is_orphan n) s.orphans ≡ false) held.2 (no_orphan s.orphans (all_of s.processes) (differ s differs) held.0 held.1))
 
-fine_from : (s : State) → NumbersDiffer s → (u : Transfer) (class : Class) (named : Option ℕ) → MayName s u class named → Lies s u named → Fine s u class named
-fine_from s differs u Copy None may lies = tt
-fine_from s differs u Share None may lies = tt
-fine_from s differs u Move None may lies = tt
-fine_from s differs u WeakMove None may lies = tt
-fine_from s differs u Copy (Some k) may lies = may
-fine_from s differs u Share (Some k) may lies = lies
-fine_from s differs u Move (Some k) may lies = (may, ⊎_elim (λ r. r) (λ o. absurd (rw (no_orphan_held s differs u.owner k may) at o)) lies)
-fine_from s differs u WeakMove (Some k) may lies = lies
+fine_from : (s : State) → NumbersDiffer s → (u : Transfer) (class : Class) (direction : Direction) (named : Option ℕ) → u.direction ≡ direction → MayName s class direction u.owner named → Lies s u named → Fine s u class named
+fine_from s differs u Copy direction None e may lies = tt
+fine_from s differs u Copy direction (Some k) e may lies = absurd (cc)
+fine_from s differs u Share direction None e may lies = absurd (true≢false (sym may))
+fine_from s differs u Share direction (Some k) e may lies = lies
+fine_from s differs u Move Outward None e may lies = λ inward. absurd (true≢false (sym (rw e at inward)))
+fine_from s differs u Move Outward (Some k) e may lies = absurd (cc)
+fine_from s differs u Move Inward None e may lies = λ inward. may
+fine_from s differs u Move Inward (Some k) e may lies = (rw e refl, (may, ⊎_elim (λ r. r) (λ o. absurd (rw (no_orphan_held s differs u.owner k may) at o)) lies))
+fine_from s differs u WeakMove direction None e may lies = absurd (true≢false (sym may))
+fine_from s differs u WeakMove direction (Some k) e may lies = lies
 
 pub orderly_stand : (s : State) → IsOrderly s → Stand s s.transfers
-orderly_stand s o = record { each = λ i d lt. let u = get_or s.transfers i d in fine_from s o.numbers u u.class u.region (o.holds.held i d lt) (o.ranges i d lt); one = o.holds.one }
+orderly_stand s o = record { each = λ i d lt. let u = get_or s.transfers i d in fine_from s o.numbers u u.class u.direction u.region refl (o.holds.held i d lt) (o.ranges i d lt); one = o.holds.one }
 
 moved_named : (s : State) (u : Transfer) (class : Class) (named : Option ℕ) (k : ℕ) → Fine s u class named → (is_move class && is_just named k) ≡ true → Holds s u k
 moved_named s u class None k h moves = absurd (true≢false (sym (and_parts (is_move class) false moves).1))
 moved_named s u Copy (Some n) k h moves = absurd (cc)
 moved_named s u Share (Some n) k h moves = absurd (cc)
-moved_named s u Move (Some n) k h moves = subst (λ j. Holds s u j) (eqb-true n k moves) h
+moved_named s u Move (Some n) k h moves = subst (λ j. Holds s u j) (eqb-true n k moves) h.1
 moved_named s u WeakMove (Some n) k h moves = absurd (cc)
 
 held_not_accessible : (state : RegionState) → is_held state ≡ true → is_accessible state ≡ true → ⊥
@@ -147,11 +156,11 @@ tidy_fine : (s : State) (u : Transfer) (class : Class) (named : Option ℕ) → 
 tidy_fine s u class None c r has h = tt
 tidy_fine s u Copy (Some k) c r has h = absurd h
 tidy_fine s u Share (Some k) c r has h = tidy_lies s u k has (rw (c, r) (eq-eqb k k refl)) h
-tidy_fine s u Move (Some k) c r has h = inl h.1
+tidy_fine s u Move (Some k) c r has h = inl h.1.1
 tidy_fine s u WeakMove (Some k) c r has h = tidy_lies s u k has (rw (c, r) (eq-eqb k k refl)) h
 
 pub tidied_ranges : (s : State) → Stand s s.transfers → RangesLie (tidy s)
 tidied_ranges s h = λ i d lt. let u = get_or s.transfers i d in tidy_fine s u u.class u.region refl refl (has_at s.transfers i d lt) (h.each i d lt)
 
 pub tidied_holds : (s : State) → Stand s s.transfers → HeldForOne (tidy s)
-tidied_holds s h = record { held = λ i d lt. let u = get_or s.transfers i d in may_name s u u.class u.region (h.each i d lt); one = h.one }
+tidied_holds s h = record { held = λ i d lt. let u = get_or s.transfers i d in may_name s u u.class u.direction u.region refl (h.each i d lt); one = h.one }

@@ -1,24 +1,30 @@
 -- Laws of the flat machine's steps.
-use Rattle.std.specs.Prelude.{◌≡◌, ℕ, ◌+◌, ◌≤◌, Bool, true, false, IsTrue, List, [], ◌∷◌, ◌++◌, length, map, flat_map, All}
+use Rattle.std.specs.Prelude.{◌≡◌, ◌≢◌, ℕ, ◌+◌, ◌≤◌, Bool, true, false, IsTrue, List, [], ◌∷◌, ◌++◌, length, map, flat_map, All, Some}
 use Rattle.std.specs.List.{range_with_len}
 use Rattle.genie_base.specs.Configs.{Config, Fits}
 use Rattle.genie_base.specs.Events.{is_whole, mark_of}
 use Rattle.genie_base.specs.declared.event.Event.{Event}
-use Rattle.genie_base.specs.declared.event.Event.TheVariants.{Output, Input}
+use Rattle.genie_base.specs.declared.event.Event.TheVariants.{Output, Input, Finish}
 use Rattle.genie_base.specs.declared.reply.Mark.{Mark}
 use Rattle.genie_base.specs.declared.reply.Mark.TheVariants.{NoFault}
 use Rattle.genie_base.specs.declared.reply.Reply.{Reply}
 use Rattle.genie_base.specs.declared.reply.Reply.TheVariants as reply
+use Rattle.genie_base.specs.declared.semantics.Class.TheVariants.{Move}
 use Rattle.genie_base.specs.declared.semantics.Semantics.{Semantics}
 use Rattle.genie_base.specs.declared.semantics.Semantics.TheVariants as semantics
 use Rattle.genie_model.specs.Flat.{sent_of}
-use Rattle.genie_model.specs.Orderly.{IsOrderly}
-use Rattle.genie_model.specs.State.{State, boot}
+use Rattle.genie_model.specs.Orderly.{shape_of, IsOrderly}
+use Rattle.genie_model.specs.Pending.{pending}
+use Rattle.genie_model.specs.State.{State, Transfer, boot}
 use Rattle.genie_model.specs.Step.{Outcome, step, Follows}
+use Rattle.genie_model.specs.Tables.{entry}
 
--- what a device has sent stays sent: a step only adds to it; and numbers of transfers rise by at most one
+-- devices keep their kinds and depths, and what they have sent stays sent: a step only adds to it; and the number of the
+-- next transfer stays or rises by one
 pub record Grows (old new : State) : Type 0 where
+  pub devices : (d : ℕ) → shape_of (entry new.devices d) ≡ shape_of (entry old.devices d)
   pub sent : (d : ℕ) → (more : List ℕ) × (sent_of new d ≡ sent_of old d ++ more)
+  pub least : old.next ≤ new.next
   pub next : new.next ≤ old.next + 1
 
 abbrev pub StepsGrow : Type 0
@@ -100,6 +106,10 @@ pub record Counts (s : State) (replies : List Reply) (last : State) : Type 0 whe
 
 abbrev pub RunsCount : Type 0
 RunsCount = (s : State) (es : List Event) (rs : List Reply) (last : State) → Follows s es rs last → Counts s rs last
+
+-- where `done` ends a move, its region is there
+abbrev pub MovesAreNotLost : Type 0
+MovesAreNotLost = (s : State) (k : ℕ) (m : Mark) (t : Transfer) → IsOrderly s → pending s k ≡ Some t → t.class ≡ Move → (step s (Finish k) m).1 ≢ reply.Lost
 
 -- what every step from an orderly state leaves so
 abbrev pub Stays : (State → Type 0) → Type 0

@@ -1,18 +1,23 @@
 -- What is so in every state that a run reaches.
 use Rattle.std.specs.Prelude.{◌≡◌, ◌≢◌, ◌⊎◌, ℕ, ◌+◌, ◌*◌, ◌<◌, ◌≤◌, Bool, true, false, IsTrue, ◌&&◌, ◌==◌, List, ◌++◌, length, map, flat_map, count_by, All, AllPairs, Option, None, Some, IfSome, ⊤}
 use Rattle.std.specs.List.{list_any}
-use Rattle.genie_base.specs.Configs.{Fits}
+use Rattle.std.specs.Option.{option_map}
+use Rattle.genie_base.specs.Configs.{DeviceConfig, Fits}
 use Rattle.genie_base.specs.Regions.{AreInOrder}
+use Rattle.genie_base.specs.declared.config.Kind.{Kind}
 use Rattle.genie_base.specs.declared.region.Area.{Area}
 use Rattle.genie_base.specs.declared.region.Area.TheVariants.{App, Sys}
 use Rattle.genie_base.specs.declared.region.RegionState.{RegionState}
 use Rattle.genie_base.specs.declared.region.RegionState.TheVariants.{Live, Out, In, Held}
 use Rattle.genie_base.specs.declared.semantics.Class.{Class}
-use Rattle.genie_base.specs.declared.semantics.Class.TheVariants.{Copy, Move}
+use Rattle.genie_base.specs.declared.semantics.Class.TheVariants.{Copy, Share, Move, WeakMove}
+use Rattle.genie_base.specs.declared.semantics.Direction.{Direction}
+use Rattle.genie_base.specs.declared.semantics.Direction.TheVariants.{Outward, Inward}
 use Rattle.genie_model.specs.declared.datagram.Fate.{Fate}
 use Rattle.genie_model.specs.declared.datagram.Fate.TheVariants.{Matched, Skipped, Gathering}
 use Rattle.genie_model.specs.State.{State, Region, Orphan, Process, Transfer, Device, Datagram}
-use Rattle.genie_model.specs.Regions.{extent_of, regions_of, regions_at, is_region, region_numbered, orphan_numbered, committed}
+use Rattle.genie_model.specs.Tables.{entry}
+use Rattle.genie_model.specs.Regions.{extent_of, regions_of, regions_at, is_here, is_region, region_numbered, orphan_numbered, committed}
 use Rattle.genie_model.specs.Pending.{names, wired, is_posted, is_inward}
 use Rattle.genie_model.specs.Space.{is_move, is_named, tidy}
 use Rattle.genie_model.specs.Tables.{entry}
@@ -72,9 +77,13 @@ NumbersDiffer s = AllPairs (λ (a b : ℕ). a ≢ b) (numbers s)
 abbrev pub OrphansAreNamed : State → Type 0
 OrphansAreNamed s = All (λ (o : Orphan). IsTrue (is_named s.transfers o)) s.orphans
 
+-- orphans stand in the order of their numbers
+abbrev pub OrphansRise : State → Type 0
+OrphansRise s = AllPairs (λ (o p : Orphan). o.number < p.number) s.orphans
+
 -- the places of each orphan rise, none of them twice
-abbrev pub OrphansAreInOrder : State → Type 0
-OrphansAreInOrder s = All (λ (o : Orphan). AllPairs (λ (a b : ℕ × ℕ). a.0 < b.0) o.bytes) s.orphans
+abbrev pub OrphanPlacesRise : State → Type 0
+OrphanPlacesRise s = All (λ (o : Orphan). AllPairs (λ (a b : ℕ × ℕ). a.0 < b.0) o.bytes) s.orphans
 
 -- nothing is left of orphans but what pending weak transfers name and cover
 abbrev pub OrphansAreTidy : State → Type 0
@@ -111,18 +120,22 @@ abbrev pub holds : State → Option ℕ → ℕ → Bool
 holds s None k = false
 holds s (Some p) k = list_any (λ (r : Region). is_region k r && is_held r.state) (regions_at s p)
 
--- a strong transfer names nothing, or as a move input the region that its owner holds
-abbrev pub MayName : State → Transfer → Class → Option ℕ → Type 0
-MayName s t Copy (Some k) = ⊥
-MayName s t Move (Some k) = IsTrue (holds s t.owner k)
-MayName s t class region = ⊤
+-- a weak transfer names a region or an orphan, and a strong one nothing; but a move input names the region that its
+-- owner holds, until the owner is gone
+abbrev pub MayName : State → Class → Direction → Option ℕ → Option ℕ → Type 0
+MayName s Copy direction owner region = region ≡ None
+MayName s Share direction owner region = IsTrue (is_here region)
+MayName s Move Outward owner region = region ≡ None
+MayName s Move Inward owner None = owner ≡ None
+MayName s Move Inward owner (Some k) = IsTrue (holds s owner k)
+MayName s WeakMove direction owner region = IsTrue (is_here region)
 
 abbrev pub moves_into : ℕ → Transfer → Bool
 moves_into k t = is_move t.class && names k t
 
--- strong transfers name held regions alone, and what a move input names no other transfer does
+-- each transfer names what it may, and what a move input names no other one does
 pub record HeldForOne (s : State) : Type 0 where
-  pub held : All (λ (t : Transfer). MayName s t t.class t.region) s.transfers
+  pub held : All (λ (t : Transfer). MayName s t.class t.direction t.owner t.region) s.transfers
   pub one : (k : ℕ) → IsTrue (list_any (moves_into k) s.transfers) → count_by (names k) s.transfers ≤ 1
 
 -- only inputs are posted
@@ -151,17 +164,27 @@ ReceivesForInput s d v = IfSome v (λ (w : Device). IfSome w.present (IsUnderWay
 abbrev pub MatchedAreInputs : State → Type 0
 MatchedAreInputs s = (d : ℕ) → ReceivesForInput s d (entry s.devices d)
 
+-- the kind and the depth of a device, where one is there
+abbrev pub shape_of : Option Device → Option (Kind × ℕ)
+shape_of v = option_map (λ (d : Device). (d.kind, d.depth)) v
+
+-- a device is there exactly where the configuration has one at its place, with the kind and the depth that it says
+abbrev pub DevicesAreConfigs : State → Type 0
+DevicesAreConfigs s = (d : ℕ) → shape_of (entry s.devices d) ≡ option_map (λ (c : DeviceConfig). (c.kind, c.depth)) (entry s.config.devices d)
+
 -- all of this
 pub record IsOrderly (s : State) : Type 0 where
   pub config : Fits s.config
   pub places : length s.processes ≡ 16
+  pub devices : DevicesAreConfigs s
   pub regions : RegionsAreApart s
   pub wired : WiredIsBounded s
   pub committed : CommittedIsBounded s
   pub transfers : NumbersRise s
   pub numbers : NumbersDiffer s
   pub orphans : OrphansAreNamed s
-  pub order : OrphansAreInOrder s
+  pub rise : OrphansRise s
+  pub order : OrphanPlacesRise s
   pub tidied : OrphansAreTidy s
   pub ranges : RangesLie s
   pub holds : HeldForOne s

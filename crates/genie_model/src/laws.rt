@@ -1,11 +1,12 @@
 //! Laws of the flat machine.
 ghost use Rattle.std.specs.Prelude.{◌≡◌, length};
 ghost use Rattle.genie_model.specs.Integrity.{OutputsKeepIntegrity, InputsKeepIntegrity, CoveredBytesStay};
-ghost use Rattle.genie_model.specs.Laws.{StepsGrow, PlainStepsShowNoFault, RefusalsChangeNothing, StepsKeepConfig, LevelsStepAlike, ThresholdsStepAlike, RunsAlike, RunsCount, Stays, RunsStayOrderly};
-ghost use Rattle.genie_model.specs.Orderly.{RegionsAreApart, WiredIsBounded, CommittedIsBounded, NumbersRise, NumbersDiffer, OrphansAreNamed, OrphansAreInOrder, OrphansAreTidy, RangesLie, HeldForOne, PostedAreInputs, MatchedAreInputs};
+ghost use Rattle.genie_model.specs.Laws.{StepsGrow, PlainStepsShowNoFault, RefusalsChangeNothing, StepsKeepConfig, LevelsStepAlike, ThresholdsStepAlike, RunsAlike, RunsCount, MovesAreNotLost, Stays, RunsStayOrderly};
+ghost use Rattle.genie_model.specs.Orderly.{RegionsAreApart, WiredIsBounded, CommittedIsBounded, NumbersRise, NumbersDiffer, OrphansAreNamed, OrphansRise, OrphanPlacesRise, OrphansAreTidy, RangesLie, HeldForOne, PostedAreInputs, MatchedAreInputs, DevicesAreConfigs};
 ghost use Rattle.genie_model.specs.Rows.{WorkedRows};
 
-/// What a device has sent stays sent, and numbers of transfers rise by at most one in a step.
+/// In a step devices keep their kinds and depths, what they have sent stays sent, and the number of the next transfer stays
+/// or rises by one.
 #[tactic(auto, using(crate::proofs::Growing::steps_grow))]
 pub fn steps_grow()
     ensures { StepsGrow }
@@ -60,6 +61,12 @@ pub fn places_stay()
     ensures { Stays (λ s. length s.processes ≡ 16) }
 {}
 
+/// A device is there exactly where the configuration has one, with its kind and depth.
+#[tactic(auto, using(crate::proofs::Growing::devices_are_configs))]
+pub fn devices_are_configs()
+    ensures { Stays DevicesAreConfigs }
+{}
+
 /// Regions of one process never overlap and stay in the order of their start pages.
 pub fn regions_stay_apart()
     ensures { Stays RegionsAreApart }
@@ -94,10 +101,16 @@ pub fn orphans_are_named()
     ensures { Stays OrphansAreNamed }
 {}
 
+/// Orphans stand in the order of their numbers.
+#[tactic(auto, using(crate::proofs::Ordered::orphans_rise))]
+pub fn orphans_rise()
+    ensures { Stays OrphansRise }
+{}
+
 /// The places of each orphan rise, none of them twice.
-#[tactic(auto, using(crate::proofs::Ordered::orphans_in_order))]
-pub fn orphans_in_order()
-    ensures { Stays OrphansAreInOrder }
+#[tactic(auto, using(crate::proofs::Ordered::orphan_places_rise))]
+pub fn orphan_places_rise()
+    ensures { Stays OrphanPlacesRise }
 {}
 
 /// Nothing is left of orphans but what pending weak transfers name and cover.
@@ -112,9 +125,16 @@ pub fn ranges_lie()
     ensures { Stays RangesLie }
 {}
 
-/// A strong transfer names nothing, or as a move input the region that its owner holds, which no other transfer names.
+/// A weak transfer names a region or an orphan, and a strong one nothing; but a move input names the region that its owner
+/// holds, which no other transfer names, until the owner is gone.
 pub fn held_for_one()
     ensures { Stays HeldForOne }
+{}
+
+/// A `done` of a move never answers `lost`.
+#[tactic(auto, using(crate::proofs::Owned::moves_are_not_lost))]
+pub fn moves_are_not_lost()
+    ensures { MovesAreNotLost }
 {}
 
 /// Only inputs are posted.

@@ -1,4 +1,4 @@
--- Strong transfers name held regions alone.
+-- Each transfer names what it may.
 use Rattle.genie_model.proofs.laws.held_for_one.Goals as goal
 use Rattle.genie_model.proofs.Holding.{held_for_one}
 
