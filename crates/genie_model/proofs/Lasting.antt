@@ -45,6 +45,10 @@ may_store (Recv d n) = true
 may_store (Finish k) = true
 may_store _ = false
 
+-- a transfer that covers a place names the region
+pub names_covered : (k x : ℕ) (u : Transfer) → covers k x u ≡ true → names_weakly k u ≡ true
+names_covered k x u e = (and_parts (names_weakly k u) (nat_le u.offset x) (and_parts (names_weakly k u && nat_le u.offset x) (nat_lt x (u.offset + u.len)) e).0).0
+
 -- region or orphan k has byte b at place x
 module _ (k x : ℕ) (b : List ℕ) where
   abbrev InRegion : Region → Type 0
@@ -94,9 +98,7 @@ module _ (k x : ℕ) (b : List ℕ) where
     covered_named : (o : Orphan) → InOrphan o → is_named transfers o ≡ true
     covered_named o h =
         let some = any_has (covers k x) transfers covered in
-        let u : Transfer = some.0 in
-        let weak = and_parts (names_weakly k u) (nat_le u.offset x) (and_parts (names_weakly k u && nat_le u.offset x) (nat_lt x (u.offset + u.len)) some.2).0 in
-        rw h.0 (has_any (names_weakly k) u transfers some.1 weak.0)
+        rw h.0 (has_any (names_weakly k) some.0 transfers some.1 (names_covered k x some.0 some.2))
 
     cut_all : (orphans : List Orphan) → Among InOrphan orphans → Among InOrphan (map (cut transfers) (filter (is_named transfers) orphans))
     cut_all orphans h = among_map InOrphan (cut transfers) cut_has (filter (is_named transfers) orphans) (among_filter InOrphan (is_named transfers) covered_named orphans h)
@@ -333,8 +335,7 @@ pub others_leave : (s : State) (e : Event) (m : Mark) (k x : ℕ) → IsTrue (is
 others_leave s e m k x whole o quiet before after =
     let some = any_has (covers k x) s.transfers before in
     let u : Transfer = some.0 in
-    let weak = and_parts (names_weakly k u) (nat_le u.offset x) (and_parts (names_weakly k u && nat_le u.offset x) (nat_lt x (u.offset + u.len)) some.2).0 in
-    let named = and_parts (not (is_strong u.class)) (names k u) weak.0 in
+    let named = and_parts (not (is_strong u.class)) (names k u) (names_covered k x u some.2) in
     let lies = lies_named s u u.region k named.1 (all_has (λ (t : Transfer). Lies s t t.region) s.transfers o.ranges u some.1) in
     let h = begins s u k x (region_numbered s k) (orphan_numbered s k) refl refl lies in
     let b : List ℕ = bytes_of s k x 1 in

@@ -1,5 +1,5 @@
--- What a step leaves of the pending transfers: some end, and the others keep their numbers, their costs and what they cover.
-use Rattle.std.proofs.Common.{◌≡◌, ℕ, zero, suc, ◌<◌, ◌≤◌, Bool, true, false, ◌==◌, ⊎_elim, List, [], ◌∷◌, length, find, refl, subst, ◌∙◌, eqb-true, arith}
+-- What a step leaves of the pending transfers: some end, and the others keep number, cost and the places they cover.
+use Rattle.std.proofs.Common.{◌≡◌, ℕ, zero, suc, ◌<◌, ◌≤◌, Bool, true, false, ◌==◌, ⊎_elim, List, [], ◌∷◌, length, find, refl, ap, subst, ◌∙◌, eqb-true, arith}
 use Rattle.std.specs.Prelude.{Some, cond, if◌then◌else◌, filter, map, sum_by, All, AllPairs}
 use Rattle.std.proofs.lemmas.Bool.{cases_Bool}
 use Rattle.std.proofs.lemmas.Bool.Decides.{nat_tests}
@@ -32,6 +32,10 @@ same_choice t false x y p q = q
 pub remain : (ts : List Transfer) → Remain ts ts
 remain [] = none
 remain (t ∷ ts) = stays (same t) (remain ts)
+
+-- only what has become of its bytes differs
+pub alike : {t u : Transfer} → u ≡ record t { phase = u.phase; payload = u.payload; staged = u.staged; moved = u.moved; stored = u.stored; note = u.note } → Same t u
+alike e = record { number = ap (λ (x : Transfer). x.number) e; cost = λ page. ap (cost_of page) e; covered = λ k x. ap (covers k x) e }
 
 pub same_later : {t u v : Transfer} → Same t u → Same u v → Same t v
 same_later s r = record { number = r.number ∙ s.number; cost = λ page. r.cost page ∙ s.cost page; covered = λ k x. r.covered k x ∙ s.covered k x }

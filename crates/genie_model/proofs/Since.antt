@@ -1,4 +1,4 @@
--- From its call on until it ends, a weak transfer covers the same places, and what comes to stand there.
+-- What stands under a weak transfer, from its call on until it ends.
 use Rattle.std.proofs.Common.{◌≡◌, ℕ, zero, ◌<◌, true, ◌⊎◌, inl, inr, List, [], ◌∷◌, find, All, refl, sym, ap, subst, ◌∙◌, eqb-true, ne_eqb, arith}
 use Rattle.std.specs.Prelude.{Option, Some, None, IsTrue}
 use Rattle.std.specs.List.{list_any}

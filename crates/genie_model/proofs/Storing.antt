@@ -1,6 +1,6 @@
 -- What an event stores in a place that a pending weak transfer covers.
-use Rattle.std.proofs.Common.{◌≡◌, ℕ, ◌+◌, true, false, ◌⊎◌, inl, inr, ⊎_elim, List, length, refl, sym, ap, subst, ◌∙◌, eqb-true, arith}
-use Rattle.std.specs.Prelude.{Option, Some, None, ◌==◌, ◌&&◌, nat_le, nat_lt}
+use Rattle.std.proofs.Common.{◌≡◌, ℕ, true, false, ◌⊎◌, inl, inr, ⊎_elim, List, length, refl, sym, ap, subst, ◌∙◌, eqb-true, arith}
+use Rattle.std.specs.Prelude.{Option, Some, None, ◌==◌}
 use Rattle.std.specs.Option.{option_map}
 use Rattle.std.specs.List.{list_any}
 use Rattle.std.proofs.lemmas.Bool.{cond_both, and_parts}
@@ -28,15 +28,12 @@ use Rattle.genie_model.proofs.Finding.{all_of, region_found}
 use Rattle.genie_model.proofs.Finishing.{named_region, filled_place}
 use Rattle.genie_model.proofs.Having.{any_has, has_any, find_has}
 use Rattle.genie_model.proofs.Inside.{IsNew, put_gives}
-use Rattle.genie_model.proofs.Lasting.{cut_has, others_leave}
+use Rattle.genie_model.proofs.Lasting.{names_covered, cut_has, others_leave}
 use Rattle.genie_model.proofs.Naming.{any_count, count_taken}
 use Rattle.genie_model.proofs.Queueing.{finish_for_like}
 use Rattle.genie_model.proofs.Standing.{tidy_orphan}
 use Rattle.genie_model.proofs.Staying.{live_place}
 use Rattle.genie_model.proofs.Stepping.{event_so}
-
-names_covered : (k x : ℕ) (u : Transfer) → covers k x u ≡ true → names_weakly k u ≡ true
-names_covered k x u e = (and_parts (names_weakly k u) (nat_le u.offset x) (and_parts (names_weakly k u && nat_le u.offset x) (nat_lt x (u.offset + u.len)) e).0).0
 
 -- the end of an event leaves the bytes of covered places
 module _ (k x : ℕ) (s : State) (covered : list_any (covers k x) s.transfers ≡ true) where

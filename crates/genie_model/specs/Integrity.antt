@@ -145,12 +145,12 @@ pub record Written (s : State) (p a : ℕ) (bytes : List ℕ) (k x : ℕ) (byte 
   pub number : region.number ≡ k
   pub stored : IsByteAt (place_in s region a) bytes x byte
 
--- the region that a weak input names, where its bytes haven't landed yet, as they have on an early device
+-- the region that a weak input names; on an early device none, since its bytes have landed
 abbrev pub late_region : State → Transfer → Option Region
 late_region s t = if is_early_at s t.device then None else region_of s t
 
--- the region in which the end of an input of process p stores the payload, if it does: a copy input's is where a write of its
--- range reaches now, and a move input's region is its own
+-- The region in which the end of an input of process p stores its payload where other transfers may cover it: the one that
+-- a write of a copy input's range reaches now, or that a weak input names. A move input fills a region of its own.
 abbrev pub buffer_of : State → ℕ → Transfer → Class → Option Region
 buffer_of s p t Copy = write_reach_of s p (address_or_zero t.addr) t.len
 buffer_of s p t Share = late_region s t
@@ -162,7 +162,7 @@ abbrev pub start_in : State → Transfer → Class → Region → ℕ
 start_in s t Copy r = place_in s r (address_or_zero t.addr)
 start_in s t class r = t.offset
 
--- The end of transfer j stored this byte at place x of region k: the payload's byte for that place of the input's buffer.
+-- The end of input j stored this byte at place x of region k: the payload's byte for that place of its buffer.
 pub record Finished (s : State) (j k x : ℕ) (byte : List ℕ) : Type 0 where
   pub input : Transfer
   pub pending : pending s j ≡ Some input
@@ -181,8 +181,8 @@ Stores s (Recv d n) k x byte = Landed s d k x byte
 Stores s (Finish j) k x byte = Finished s j k x byte
 Stores s _ k x byte = ⊥
 
--- Where a pending weak transfer covers a byte before and after an event, the byte stays, or the event stored the new one
--- there. So the region may go, but the byte stays.
+-- Where a pending weak transfer covers a byte before and after an event, the byte stays, or the event stored the new
+-- one there. So the region may go, but the byte stays.
 abbrev pub CoveredBytesStay : Type 0
 CoveredBytesStay = (s : State) (e : Event) (m : Mark) (k x : ℕ) → IsTrue (is_whole e) → IsOrderly s → IsTrue (list_any (covers k x) s.transfers) → IsTrue (list_any (covers k x) (step s e m).0.transfers)
     → (bytes_of (step s e m).0 k x 1 ≡ bytes_of s k x 1) ⊎ Stores s e k x (bytes_of (step s e m).0 k x 1)
@@ -198,13 +198,13 @@ WasStored s (e ∷ es) (r ∷ rs) k x byte =
     (Stores s e k x byte × StandsIn (states next es rs) k x byte) ⊎ WasStored next es rs k x byte
 WasStored s es rs k x byte = ⊥
 
--- A transfer is t in the first state of a run and u in the last one: both cover the same places, and the last byte of such a
--- place stands there in all states, or was stored since.
+-- A transfer is t in the first state of a run and u in the last one: both cover the same places, and the last byte of
+-- such a place stands there in all states, or was stored since.
 pub record KeepsByte (s : State) (es : List Event) (rs : List Reply) (last : State) (k x : ℕ) (t u : Transfer) : Type 0 where
   pub place : covers k x u ≡ covers k x t
   pub byte : IsTrue (covers k x t) → StandsIn (states s es rs) k x (bytes_of last k x 1) ⊎ WasStored s es rs k x (bytes_of last k x 1)
 
--- So it is from the call of a weak transfer on until it ends: each byte that it covers stays until a write, a `done` or a
--- receive step stores another one in its place.
+-- So it is from the call of a weak transfer on until it ends: each byte that it covers stays until a write, a `done` or
+-- a receive step stores another one in its place.
 abbrev pub WeakTransfersKeepBytes : Type 0
 WeakTransfersKeepBytes = (s : State) (es : List Event) (rs : List Reply) (last : State) (n k x : ℕ) (t u : Transfer) → IsOrderly s → All (λ (e : Event). IsTrue (is_whole e)) es → Follows s es rs last → pending s n ≡ Some t → pending last n ≡ Some u → KeepsByte s es rs last k x t u
