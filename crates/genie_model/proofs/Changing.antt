@@ -39,15 +39,15 @@ module _ (s t : State) (j : ℕ) (f : Region → Region) (in_place : InPlace s t
   changed_number : (k : ℕ) (r : Region) → is_region k (changed j f r) ≡ is_region k r
   changed_number k r = cond_both (r.number == j) (f r) r (λ (q : Region). (q.number == k) ≡ (r.number == k)) (λ _. ap (λ n. n == k) (in_place.number r)) (λ _. refl)
 
-  found : (k : ℕ) → region_numbered t k ≡ option_map (changed j f) (region_numbered s k)
-  found k = region_found t k ∙ ap (find (is_region k)) in_place.all ∙ find_map (is_region k) (changed j f) (changed_number k) (all_of s.processes) ∙ ap (option_map (changed j f)) (sym (region_found s k))
+  pub place_found : (k : ℕ) → region_numbered t k ≡ option_map (changed j f) (region_numbered s k)
+  place_found k = region_found t k ∙ ap (find (is_region k)) in_place.all ∙ find_map (is_region k) (changed j f) (changed_number k) (all_of s.processes) ∙ ap (option_map (changed j f)) (sym (region_found s k))
 
   lies_changed : (u : Transfer) (o : Option Region) → LiesInRegion u o → LiesInRegion u (option_map (changed j f) o)
   lies_changed u None h = h
   lies_changed u (Some r) h = cond_both (r.number == j) (f r) r (λ (q : Region). u.offset + u.len ≤ length q.bytes) (λ _. rw (in_place.long r) h) (λ _. h)
 
   in_region : (u : Transfer) (k : ℕ) → LiesInRegion u (region_numbered s k) → LiesInRegion u (region_numbered t k)
-  in_region u k h = rw (found k) (lies_changed u (region_numbered s k) h)
+  in_region u k h = rw (place_found k) (lies_changed u (region_numbered s k) h)
 
   pub place_keeps_lies : KeepsLies s t
   place_keeps_lies u k h = ⊎_elim (λ r. inl (in_region u k r)) (λ o. inr (in_place.orphans u k o)) h

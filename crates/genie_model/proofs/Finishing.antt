@@ -23,11 +23,11 @@ use Rattle.genie_model.proofs.Changing.{InPlace, in_place_by}
 use Rattle.genie_model.proofs.Naming.{stand_without, none_left}
 use Rattle.genie_model.proofs.Staying.{Stands, put_stands, state_stands, remove_stands, live_place, moved_out_place}
 
-named_region : (s : State) (named : Option ℕ) (r : Region) → option_and_then (region_numbered s) named ≡ Some r → Has r (all_of s.processes) × (is_just named r.number ≡ true)
+pub named_region : (s : State) (named : Option ℕ) (r : Region) → option_and_then (region_numbered s) named ≡ Some r → Has r (all_of s.processes) × (is_just named r.number ≡ true)
 named_region s None r e = absurd (cc)
 named_region s (Some k) r e = let f = find_has (is_region k) (all_of s.processes) r (sym (region_found s k) ∙ e) in (f.0, eq-eqb k r.number (sym (eqb-true r.number k f.1)))
 
-filled_place : (s : State) (k : ℕ) (bytes : List ℕ) → InPlace s (change_region s k (filled bytes)) k (filled bytes)
+pub filled_place : (s : State) (k : ℕ) (bytes : List ℕ) → InPlace s (change_region s k (filled bytes)) k (filled bytes)
 filled_place s k bytes = in_place_by s (change_region s k (filled bytes)) k (filled bytes) (changed_in k (filled bytes)) refl (λ p. refl) (λ r. refl)
     (λ r. length-overlaid 0 bytes (replicate (length r.bytes) 0) ∙ length-replicate {A = ℕ} (length r.bytes) 0) (λ u j l. l)
 

@@ -1,10 +1,10 @@
 -- What a step keeps: the configuration, and the transfers but those that end or that a call adds.
-use Rattle.std.proofs.Common.{◌≡◌, ℕ, ◌+◌, Bool, true, false, List, [], ◌∷◌, ◌++◌, refl, ap, sym, subst, ◌∙◌}
+use Rattle.std.proofs.Common.{◌≡◌, ℕ, ◌+◌, Bool, true, false, List, [], ◌∷◌, ◌++◌, ◌&&◌, refl, ap, sym, subst, ◌∙◌}
 use Rattle.std.proofs.lemmas.Bool.{cond_both}
-use Rattle.std.specs.Prelude.{Option, Some, None, take, drop, filter, not, ◌==◌, if◌then◌else◌}
+use Rattle.std.specs.Prelude.{Option, Some, None, take, drop, filter, not, nat_le, nat_lt, ◌==◌, if◌then◌else◌}
 use Rattle.genie_base.specs.Configs.{most}
 use Rattle.genie_base.specs.Headers.{header_taken, is_whole_header, is_valid_header, port_in, flow_in}
-use Rattle.genie_base.specs.Transfers.{class_of}
+use Rattle.genie_base.specs.Transfers.{class_of, is_strong}
 use Rattle.genie_base.specs.declared.event.Event.{Event}
 use Rattle.genie_base.specs.declared.event.Event.TheVariants.{Fork, Exit, Unmap, Protect, Write, Output, Input, Send, Recv, Finish, Cancel}
 use Rattle.genie_base.specs.declared.refusal.Refusal.{Refusal}
@@ -23,7 +23,7 @@ use Rattle.genie_model.specs.State.{State, Region, Transfer, Device, Datagram}
 use Rattle.genie_model.specs.Tables.{entry}
 use Rattle.genie_model.specs.Regions.{reach_of, write_reach_of, regions_at, put}
 use Rattle.genie_model.specs.Pending.{first_queued, first_posted, pending, is_early, is_early_at, is_just, is_numbered, waits_for, add_transfer}
-use Rattle.genie_model.specs.Space.{Outcome, remove_found, region_from, protect_found, add_copies, add_region, copy_of, spawned, accessible, fork, stored, disowned, is_posted_by, exit}
+use Rattle.genie_model.specs.Space.{Outcome, remove_found, region_from, protect_found, add_copies, add_region, copy_of, spawned, accessible, fork, stored, is_move, disowned, is_posted_by, exit}
 use Rattle.genie_model.specs.Outputs.{output_of, after_output}
 use Rattle.genie_model.specs.Inputs.{posted, with_buffer, weak_buffer, reusable, pages_for, address_or_zero}
 use Rattle.genie_model.specs.Sending.{after_sending, must_stage, unsent, send_next}
@@ -32,7 +32,7 @@ use Rattle.genie_model.specs.Ending.{after_landing, finish_copy, finish_share, f
 use Rattle.genie_model.specs.Laws.{is_refused, id_of, StepsKeepConfig}
 use Rattle.genie_model.specs.Refusing.{refuse}
 use Rattle.genie_model.specs.Step.{answer, marked, accept, perform, failed, may_fail, uses_store, with_budget, step}
-use Rattle.genie_model.proofs.Remaining.{Same, Remain, same, same_choice, remain, remain_later, change_remain, without_remain, filter_remain, map_remain}
+use Rattle.genie_model.proofs.Remaining.{Same, Remain, alike, same, same_choice, remain, remain_later, change_remain, without_remain, filter_remain, map_remain}
 
 -- no call is accepted between these states
 pub record Keeps (s t : State) : Type 0 where
@@ -110,8 +110,14 @@ stored_did : (s : State) (o : Option Region) (a : ℕ) (bytes : List ℕ) → Di
 stored_did s None a bytes = quiet s _ _ refl refl
 stored_did s (Some r) a bytes = quiet s _ _ refl refl
 
+gone_names : (class : Class) (r : Option ℕ) (k : ℕ) → (not (is_strong class) && is_just (if is_move class then None else r) k) ≡ (not (is_strong class) && is_just r k)
+gone_names Copy r k = refl
+gone_names Share r k = refl
+gone_names Move r k = refl
+gone_names WeakMove r k = refl
+
 disowned_same : (p : ℕ) (t : Transfer) → Same t (disowned p t)
-disowned_same p t = same_choice t (is_just t.owner p) _ _ (record { number = refl; cost = λ page. refl }) (same t)
+disowned_same p t = same_choice t (is_just t.owner p) _ _ (record { number = refl; cost = λ page. refl; covered = λ k x. ap (λ b. b && nat_le t.offset x && nat_lt x (t.offset + t.len)) (gone_names t.class t.region k) }) (same t)
 
 exit_did : (s : State) (p : ℕ) → Did s None (exit s p)
 exit_did s p =
@@ -137,9 +143,9 @@ input_did s p class t n = called s _ t refl
 send_did : (s : State) (d n : ℕ) (o : Option Transfer) → Did s None (send_next s d n o)
 send_did s d n None = quiet s _ _ refl refl
 send_did s d n (Some t) =
-    let sent : (k : ℕ) (u : Transfer) → Same u (after_sending k u) = λ k u. same_choice u (k == unsent u) _ _ (record { number = refl; cost = λ page. refl }) (record { number = refl; cost = λ page. refl }) in
+    let sent : (k : ℕ) (u : Transfer) → Same u (after_sending k u) = λ k u. same_choice u (k == unsent u) _ _ (alike refl) (alike refl) in
     choice s (must_stage s d t) _ _
-    (after s _ _ (record { config = refl; left = change_remain (waits_for d) _ (λ u. record { number = refl; cost = λ page. refl }) s.transfers; next = refl }) refl)
+    (after s _ _ (record { config = refl; left = change_remain (waits_for d) _ (λ u. alike refl) s.transfers; next = refl }) refl)
     (after s _ _ (record { config = refl; left = change_remain (waits_for d) _ (sent _) s.transfers; next = refl }) refl)
 
 change_keeps : (s : State) (k : ℕ) (f : Transfer → Transfer) → ((t : Transfer) → Same t (f t)) → Keeps s (change_transfer s k f)
@@ -147,11 +153,11 @@ change_keeps s k f h = record { config = refl; left = change_remain (is_numbered
 
 deliver_did : (s : State) (g : Datagram) (truncated : Bool) (k : ℕ) (o : Option ℕ) → Did s None (deliver s g truncated k o)
 deliver_did s g truncated k None = quiet s _ _ refl refl
-deliver_did s g truncated k (Some t) = after s _ _ (change_keeps s t (gathered truncated g.len g.bytes) (λ u. record { number = refl; cost = λ page. refl })) refl
+deliver_did s g truncated k (Some t) = after s _ _ (change_keeps s t (gathered truncated g.len g.bytes) (λ u. alike refl)) refl
 
 complete_did : (s : State) (d : ℕ) (g : Datagram) (truncated : Bool) (k : ℕ) (fate : Fate) → Did s None (complete s d g truncated k fate)
 complete_did s d g truncated k Skipped = quiet s _ _ refl refl
-complete_did s d g truncated k (Matched t) = after s _ _ (change_keeps s t (with_datagram truncated g.len) (λ u. record { number = refl; cost = λ page. refl })) refl
+complete_did s d g truncated k (Matched t) = after s _ _ (change_keeps s t (with_datagram truncated g.len) (λ u. alike refl)) refl
 complete_did s d g truncated k Gathering = deliver_did s g truncated k (first_posted s d g.port g.flow)
 
 go_on_did : (s : State) (d : ℕ) (v : Device) (g : Datagram) (k : ℕ) → Did s None (go_on s d v g k)
@@ -166,7 +172,7 @@ landed_keeps s t x bytes (Some r) = like s _ refl
 
 land_in_keeps : (s : State) (x : ℕ) (bytes : List ℕ) (o : Option Transfer) → Keeps s (land_in s x bytes o)
 land_in_keeps s x bytes None = unchanged s
-land_in_keeps s x bytes (Some t) = later s _ _ (landed_keeps s t x bytes (landing t)) (change_keeps (landed s t x bytes (landing t)) t.number (after_receiving x bytes) (λ u. record { number = refl; cost = λ page. refl }))
+land_in_keeps s x bytes (Some t) = later s _ _ (landed_keeps s t x bytes (landing t)) (change_keeps (landed s t x bytes (landing t)) t.number (after_receiving x bytes) (λ u. alike refl))
 
 land_keeps : (s : State) (x : ℕ) (bytes : List ℕ) (fate : Fate) → Keeps s (land s x bytes fate)
 land_keeps s x bytes (Matched t) = land_in_keeps s x bytes (pending s t)
@@ -182,7 +188,7 @@ match_did : (s : State) (d left : ℕ) (v : Device) (header : List ℕ) (h : ℕ
 match_did s d left v header h None = quiet s _ _ refl refl
 match_did s d left v header h (Some t) =
     let moving : State = change_transfer s t (with_phase Moving) in
-    from s moving _ (change_keeps s t (with_phase Moving) (λ u. record { number = refl; cost = λ page. refl })) (payload_did moving d v (datagram header (Matched t)) h _)
+    from s moving _ (change_keeps s t (with_phase Moving) (λ u. alike refl)) (payload_did moving d v (datagram header (Matched t)) h _)
 
 begin_did : (s : State) (d left : ℕ) (v : Device) (header : List ℕ) (h : ℕ) → Did s None (begin_datagram s d left v header h)
 begin_did s d left v header h = choice s (is_early v.kind) _ _ (match_did s d left v header h (first_posted s d (port_in header) (flow_in header))) (payload_did s d v (datagram header Gathering) h _)

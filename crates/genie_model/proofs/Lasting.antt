@@ -1,10 +1,11 @@
--- A byte that a pending weak transfer covers stays in every event but those that store bytes.
+-- Every event but those that store bytes leaves a byte that a pending weak transfer covers.
 use Rattle.std.proofs.Common.{◌≡◌, ℕ, zero, suc, ◌+◌, ◌<◌, Bool, true, false, not, ◌&&◌, ◌||◌, ◌==◌, ◌⊎◌, inl, inr, ⊎_elim, List, [], ◌∷◌, ◌++◌, map, filter, find, AllPairs, ◌≢◌, refl, sym, ap, subst, ◌∙◌, eqb-true, eq-eqb, ne_eqb, true≢false, arith}
-use Rattle.std.specs.Prelude.{Option, Some, None, ⊤, nat_le, nat_lt, sum_by, option_and_then}
+use Rattle.std.specs.Prelude.{Option, Some, None, IsTrue, ⊤, nat_le, nat_lt, sum_by, option_and_then}
 use Rattle.std.specs.List.{list_any}
 use Rattle.std.proofs.lemmas.Bool.{cases_Bool, cond_both, and_parts}
 use Rattle.std.proofs.lemmas.Bool.Decides.{nat_tests}
 use Rattle.genie_base.specs.Bytes.{part}
+use Rattle.genie_base.specs.Events.{is_whole}
 use Rattle.genie_base.specs.Posted.{Address}
 use Rattle.genie_base.specs.Regions.{is_reached, add_in_order}
 use Rattle.genie_base.specs.Transfers.{class_of, is_strong}
@@ -19,8 +20,7 @@ use Rattle.genie_base.specs.declared.semantics.Class.{Class}
 use Rattle.genie_base.specs.declared.semantics.Class.TheVariants.{Copy, Share, Move, WeakMove}
 use Rattle.genie_model.specs.Ending.{without_transfer, region_of, after_cancel, cancel_found}
 use Rattle.genie_model.specs.Inputs.{pages_for, reusable, moved_in_of, weak_buffer, with_buffer}
-use Rattle.genie_model.specs.Integrity.{may_store, CoveredBytesStay}
-use Rattle.genie_model.specs.Orderly.{LiesInRegion, LiesInOrphan, Lies, orphan_numbers, NumbersDiffer}
+use Rattle.genie_model.specs.Orderly.{LiesInRegion, LiesInOrphan, Lies, orphan_numbers, NumbersDiffer, IsOrderly}
 use Rattle.genie_model.specs.Outputs.{output_of, moved_out_of, after_output}
 use Rattle.genie_model.specs.Pending.{is_just, names, names_weakly, covers, first_queued, pending, add_transfer}
 use Rattle.genie_model.specs.Refusing.{over_backing, accessible_pages, refuse}
@@ -37,6 +37,17 @@ use Rattle.genie_model.proofs.Distinct.{numbers_differ}
 use Rattle.genie_model.proofs.Finding.{all_of, region_found, has_region, differ, numbers_in, only_region, no_orphan}
 use Rattle.genie_model.proofs.Having.{Has, all_has, any_has, has_any, find_has, has_map, has_either, pairs_head, pairs_tail, pairs_right}
 use Rattle.genie_model.proofs.Stepping.{event_so}
+
+-- the events that store bytes
+abbrev pub may_store : Event → Bool
+may_store (Write p a bytes) = true
+may_store (Recv d n) = true
+may_store (Finish k) = true
+may_store _ = false
+
+-- a transfer that covers a place names the region
+pub names_covered : (k x : ℕ) (u : Transfer) → covers k x u ≡ true → names_weakly k u ≡ true
+names_covered k x u e = (and_parts (names_weakly k u) (nat_le u.offset x) (and_parts (names_weakly k u && nat_le u.offset x) (nat_lt x (u.offset + u.len)) e).0).0
 
 -- region or orphan k has byte b at place x
 module _ (k x : ℕ) (b : List ℕ) where
@@ -81,15 +92,13 @@ module _ (k x : ℕ) (b : List ℕ) where
       rw out (filter_within q so es))
 
   module _ (transfers : List Transfer) (covered : list_any (covers k x) transfers ≡ true) where
-    cut_has : (o : Orphan) → InOrphan o → InOrphan (cut transfers o)
+    pub cut_has : (o : Orphan) → InOrphan o → InOrphan (cut transfers o)
     cut_has o h = (h.0, filter_within (λ (e : ℕ × ℕ). list_any (covers o.number e.0) transfers) (λ e at. rw (h.0, at) covered) o.bytes ∙ h.1)
 
     covered_named : (o : Orphan) → InOrphan o → is_named transfers o ≡ true
     covered_named o h =
         let some = any_has (covers k x) transfers covered in
-        let u : Transfer = some.0 in
-        let weak = and_parts (names_weakly k u) (nat_le u.offset x) (and_parts (names_weakly k u && nat_le u.offset x) (nat_lt x (u.offset + u.len)) some.2).0 in
-        rw h.0 (has_any (names_weakly k) u transfers some.1 weak.0)
+        rw h.0 (has_any (names_weakly k) some.0 transfers some.1 (names_covered k x some.0 some.2))
 
     cut_all : (orphans : List Orphan) → Among InOrphan orphans → Among InOrphan (map (cut transfers) (filter (is_named transfers) orphans))
     cut_all orphans h = among_map InOrphan (cut transfers) cut_has (filter (is_named transfers) orphans) (among_filter InOrphan (is_named transfers) covered_named orphans h)
@@ -322,12 +331,11 @@ begins s u k x None (Some o) e f h =
     inr (has_among (InOrphan k x (bytes_within x 1 o.bytes)) o s.orphans found.0 (eqb-true o.number k found.1, refl))
 begins s u k x None None e f h = absurd (⊎_elim (λ no. no) (λ no. no) h)
 
-pub covered_bytes_stay : CoveredBytesStay
-covered_bytes_stay s e m k x whole o quiet before after =
+pub others_leave : (s : State) (e : Event) (m : Mark) (k x : ℕ) → IsTrue (is_whole e) → IsOrderly s → may_store e ≡ false → list_any (covers k x) s.transfers ≡ true → list_any (covers k x) (step s e m).0.transfers ≡ true → bytes_of (step s e m).0 k x 1 ≡ bytes_of s k x 1
+others_leave s e m k x whole o quiet before after =
     let some = any_has (covers k x) s.transfers before in
     let u : Transfer = some.0 in
-    let weak = and_parts (names_weakly k u) (nat_le u.offset x) (and_parts (names_weakly k u && nat_le u.offset x) (nat_lt x (u.offset + u.len)) some.2).0 in
-    let named = and_parts (not (is_strong u.class)) (names k u) weak.0 in
+    let named = and_parts (not (is_strong u.class)) (names k u) (names_covered k x u some.2) in
     let lies = lies_named s u u.region k named.1 (all_has (λ (t : Transfer). Lies s t t.region) s.transfers o.ranges u some.1) in
     let h = begins s u k x (region_numbered s k) (orphan_numbered s k) refl refl lies in
     let b : List ℕ = bytes_of s k x 1 in

@@ -55,10 +55,12 @@ pub mod Rows
 pub mod Sent
 pub mod Serving
 pub mod Shrinking
+pub mod Since
 pub mod Spacing
 pub mod Standing
 pub mod Staying
 pub mod Stepping
+pub mod Storing
 pub mod Thresholds
 pub mod Tidied
 pub mod Turning

@@ -10,12 +10,12 @@ use Rattle.genie_model.proofs.Remaining.{remain_few, remain_all, remain_order}
 use Rattle.genie_model.proofs.Keeping.{Keeps, call_of, with_call, steps_keep}
 use Rattle.genie_model.proofs.Accepting.{IsAccepted, OnCall, accepted}
 
-numbers_kept : (s t : State) → Keeps s t → NumbersRise s → NumbersRise t
+pub numbers_kept : (s t : State) → Keeps s t → NumbersRise s → NumbersRise t
 numbers_kept s t k h =
     let few = remain_few k.left in
     record { few = omega (arith, few, h.few); order = remain_order k.left h.order; below = rw (k.next) (remain_all (λ n. n < s.next) k.left h.below) }
 
-number_added : (s : State) (c : Option Transfer) → OnCall (IsAccepted s) c → NumbersRise s → NumbersRise (with_call s c)
+pub number_added : (s : State) (c : Option Transfer) → OnCall (IsAccepted s) c → NumbersRise s → NumbersRise (with_call s c)
 number_added s None a h = h
 number_added s (Some t) a h =
     let long = length-append s.transfers (t ∷ []) in

@@ -157,7 +157,7 @@ finish_owned_like : (s : State) (p : ℕ) (t : Transfer) (direction : Direction)
 finish_owned_like s p t Outward = refl
 finish_owned_like s p t Inward = finish_input_like s p t t.class
 
-finish_for_like : (s : State) (t : Transfer) (o : Option ℕ) → SameBut s (finish_for s t o).0
+pub finish_for_like : (s : State) (t : Transfer) (o : Option ℕ) → SameBut s (finish_for s t o).0
 finish_for_like s t None = refl
 finish_for_like s t (Some p) = finish_owned_like s p t t.direction
 

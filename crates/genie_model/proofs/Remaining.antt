@@ -1,17 +1,21 @@
--- What a step leaves of the pending transfers: some end, and the others keep their numbers and their costs.
-use Rattle.std.proofs.Common.{◌≡◌, ℕ, zero, suc, ◌<◌, ◌≤◌, Bool, true, false, List, [], ◌∷◌, length, refl, ◌∙◌, arith}
-use Rattle.std.specs.Prelude.{cond, if◌then◌else◌, filter, map, sum_by, All, AllPairs}
+-- What a step leaves of the pending transfers: some end, and the others keep number, cost and the places they cover.
+use Rattle.std.proofs.Common.{◌≡◌, ℕ, zero, suc, ◌<◌, ◌≤◌, Bool, true, false, ◌==◌, ⊎_elim, List, [], ◌∷◌, length, find, refl, ap, subst, ◌∙◌, eqb-true, arith}
+use Rattle.std.specs.Prelude.{Some, cond, if◌then◌else◌, filter, map, sum_by, All, AllPairs}
+use Rattle.std.proofs.lemmas.Bool.{cases_Bool}
+use Rattle.std.proofs.lemmas.Bool.Decides.{nat_tests}
 use Rattle.std.proofs.lemmas.List.Elements.{All-cons, All-head, All-tail}
 use Rattle.std.proofs.lemmas.List.Kept.{AllPairs-cons}
 use Rattle.std.proofs.lemmas.List.Sums.{sum_by-cons}
 use Rattle.genie_model.specs.State.{Transfer}
-use Rattle.genie_model.specs.Pending.{cost_of}
+use Rattle.genie_model.specs.Pending.{cost_of, is_numbered, covers}
 use Rattle.genie_model.specs.Tables.{change, without}
+use Rattle.genie_model.proofs.Having.{find_has, pairs_head, pairs_tail}
 
 -- u is what became of t
 pub record Same (t u : Transfer) : Type 0 where
   pub number : u.number ≡ t.number
   pub cost : (page : ℕ) → cost_of page u ≡ cost_of page t
+  pub covered : (k x : ℕ) → covers k x u ≡ covers k x t
 
 pub data Remain : List Transfer → List Transfer → Type 0 where
   none : Remain [] []
@@ -19,7 +23,7 @@ pub data Remain : List Transfer → List Transfer → Type 0 where
   stays : {t u : Transfer} {ts us : List Transfer} → Same t u → Remain ts us → Remain (t ∷ ts) (u ∷ us)
 
 pub same : (t : Transfer) → Same t t
-same t = record { number = refl; cost = λ page. refl }
+same t = record { number = refl; cost = λ page. refl; covered = λ k x. refl }
 
 pub same_choice : (t : Transfer) (b : Bool) (x y : Transfer) → Same t x → Same t y → Same t (if b then x else y)
 same_choice t true x y p q = p
@@ -29,11 +33,18 @@ pub remain : (ts : List Transfer) → Remain ts ts
 remain [] = none
 remain (t ∷ ts) = stays (same t) (remain ts)
 
+-- only what has become of its bytes differs
+pub alike : {t u : Transfer} → u ≡ record t { phase = u.phase; payload = u.payload; staged = u.staged; moved = u.moved; stored = u.stored; note = u.note } → Same t u
+alike e = record { number = ap (λ (x : Transfer). x.number) e; cost = λ page. ap (cost_of page) e; covered = λ k x. ap (covers k x) e }
+
+pub same_later : {t u v : Transfer} → Same t u → Same u v → Same t v
+same_later s r = record { number = r.number ∙ s.number; cost = λ page. r.cost page ∙ s.cost page; covered = λ k x. r.covered k x ∙ s.covered k x }
+
 pub remain_later : {ts us vs : List Transfer} → Remain ts us → Remain us vs → Remain ts vs
 remain_later none q = q
 remain_later (ends p) q = ends (remain_later p q)
 remain_later (stays s p) (ends q) = ends (remain_later p q)
-remain_later (stays s p) (stays r q) = stays (record { number = r.number ∙ s.number; cost = λ page. r.cost page ∙ s.cost page }) (remain_later p q)
+remain_later (stays s p) (stays r q) = stays (same_later s r) (remain_later p q)
 
 module _ (p : Transfer → Bool) where
   pub change_remain : (f : Transfer → Transfer) → ((t : Transfer) → Same t (f t)) → (ts : List Transfer) → Remain ts (change p f ts)
@@ -80,3 +91,20 @@ pub remain_cost : (page : ℕ) {ts us : List Transfer} → Remain ts us → sum_
 remain_cost page none = omega arith
 remain_cost page (ends {t} {ts} p) = let q = remain_cost page p in omega (arith, q, sum_by-cons (cost_of page) t ts)
 remain_cost page (stays {t} {u} {ts} {us} s p) = let q = remain_cost page p in let c = s.cost page in omega (arith, q, c, sum_by-cons (cost_of page) t ts, sum_by-cons (cost_of page) u us)
+
+-- what a number finds later it found before
+pub remain_found : (n : ℕ) {ts us : List Transfer} → Remain ts us → AllPairs (λ (t u : Transfer). t.number < u.number) ts → (v : Transfer) → find (is_numbered n) us ≡ Some v → (t : Transfer) × (find (is_numbered n) ts ≡ Some t) × Same t v
+remain_found n none order v e = absurd (cc)
+remain_found n (ends {t} {ts} p) order v e =
+    let was = remain_found n p (pairs_tail (λ (a b : Transfer). a.number < b.number) t ts order) v e in
+    let has = find_has (is_numbered n) ts was.0 was.1 in
+    let above = pairs_head (λ (a b : Transfer). a.number < b.number) t ts order was.0 has.0 in
+    let other : (t.number == n) ≡ false = grind (arith, nat_tests, above, eqb-true was.0.number n has.1) in
+    (was.0, rw other was.1, was.2)
+remain_found n (stays {t} {u} {ts} {us} s p) order v e = ⊎_elim
+    (λ (here : (t.number == n) ≡ true). let now : (u.number == n) ≡ true = rw (s.number) here in let is : Some u ≡ Some v = rw now at e in let same : u ≡ v = cc in (t, rw here refl, subst (Same t) same s))
+    (λ (other : (t.number == n) ≡ false).
+    let now : (u.number == n) ≡ false = rw (s.number) other in
+    let was = remain_found n p (pairs_tail (λ (a b : Transfer). a.number < b.number) t ts order) v (rw now at e) in
+    (was.0, rw other was.1, was.2))
+    (cases_Bool (t.number == n))

@@ -144,7 +144,7 @@ cut_lies transfers u k (Some o) has weak number h = λ x low high.
     let there : list_any (covers o.number x) transfers ≡ true = rw (number o refl) (has_any (covers k x) u transfers has covered) in
     any_filter (λ (e : ℕ × ℕ). e.0 == x) (λ (e : ℕ × ℕ). list_any (covers o.number e.0) transfers) (λ e t. subst (λ y. list_any (covers o.number y) transfers ≡ true) (sym (eqb-true e.0 x t)) there) o.bytes (h x low high)
 
-tidy_orphan : (s : State) (k : ℕ) → list_any (names_weakly k) s.transfers ≡ true → orphan_numbered (tidy s) k ≡ option_map (cut s.transfers) (orphan_numbered s k)
+pub tidy_orphan : (s : State) (k : ℕ) → list_any (names_weakly k) s.transfers ≡ true → orphan_numbered (tidy s) k ≡ option_map (cut s.transfers) (orphan_numbered s k)
 tidy_orphan s k e = find_map (is_orphan k) (cut s.transfers) (λ o. refl) (filter (is_named s.transfers) s.orphans)
     ∙ ap (option_map (cut s.transfers)) (find_filter (is_orphan k) (is_named s.transfers) (λ o t. subst (λ n. list_any (names_weakly n) s.transfers ≡ true) (sym (eqb-true o.number k t)) e) s.orphans)
 

@@ -1,5 +1,5 @@
 -- Integrity: what a run sends is what the outputs' buffers had, and what it receives shows nowhere too soon.
-use Rattle.std.specs.Prelude.{◌≡◌, ◌⊎◌, ℕ, ◌+◌, ◌-◌, ◌<◌, ◌==◌, nat_le, nat_lt, Bool, true, false, IsTrue, ◌&&◌, List, [], ◌∷◌, ◌++◌, length, take, get_or, All, Option, None, Some, ⊤, if◌then◌else◌}
+use Rattle.std.specs.Prelude.{◌≡◌, ◌⊎◌, ℕ, ◌+◌, ◌-◌, ◌<◌, ◌==◌, nat_le, nat_lt, Bool, IsTrue, ◌&&◌, List, [], ◌∷◌, ◌++◌, length, take, get_or, All, Option, None, Some, ⊤, if◌then◌else◌}
 use Rattle.std.specs.List.{list_any, Any}
 use Rattle.genie_base.specs.Bytes.{part}
 use Rattle.genie_base.specs.Configs.{Config, Fits}
@@ -16,13 +16,15 @@ use Rattle.genie_base.specs.declared.semantics.Class.{Class}
 use Rattle.genie_base.specs.declared.semantics.Class.TheVariants.{Copy, Share, Move, WeakMove}
 use Rattle.genie_model.specs.declared.datagram.Fate.{Fate}
 use Rattle.genie_model.specs.declared.datagram.Fate.TheVariants.{Matched, Skipped, Gathering}
+use Rattle.genie_model.specs.Ending.{region_of}
 use Rattle.genie_model.specs.Flat.{sent_of}
+use Rattle.genie_model.specs.Inputs.{address_or_zero}
 use Rattle.genie_model.specs.Orderly.{IsOrderly}
 use Rattle.genie_model.specs.Outputs.{number_of, place_reached}
-use Rattle.genie_model.specs.Pending.{is_inward, covers, pending, first_posted}
-use Rattle.genie_model.specs.Regions.{bytes_of, reach_of}
+use Rattle.genie_model.specs.Pending.{is_inward, covers, pending, first_posted, is_early_at}
+use Rattle.genie_model.specs.Regions.{bytes_of, reach_of, place_in, write_reach_of}
 use Rattle.genie_model.specs.Space.{bytes_reached}
-use Rattle.genie_model.specs.State.{State, Transfer, Device, Datagram, boot}
+use Rattle.genie_model.specs.State.{State, Region, Transfer, Device, Datagram, boot}
 use Rattle.genie_model.specs.Step.{step, Follows}
 use Rattle.genie_model.specs.Tables.{entry}
 
@@ -161,14 +163,80 @@ abbrev pub InputsKeepIntegrity : Type 0
 InputsKeepIntegrity = (s : State) (d n : ℕ) (m : Mark) (k x : ℕ) → IsOrderly s
     → (bytes_of (step s (Recv d n) m).0 k x 1 ≡ bytes_of s k x 1) ⊎ Landed s d k x (bytes_of (step s (Recv d n) m).0 k x 1)
 
--- the events that store bytes: a write, the end of a transfer, and a receive step
-abbrev pub may_store : Event → Bool
-may_store (Write p a bytes) = true
-may_store (Recv d n) = true
-may_store (Finish k) = true
-may_store _ = false
+-- of these bytes, stored from place y on, it is the one for place x
+pub record IsByteAt (y : ℕ) (bytes : List ℕ) (x : ℕ) (byte : List ℕ) : Type 0 where
+  pub index : ℕ
+  pub place : y + index ≡ x
+  pub within : index < length bytes
+  pub is : byte ≡ part index 1 bytes
 
--- Every other event leaves a byte that a pending weak transfer covers: its region may go, but the byte stays.
+-- a write stored this byte at place x of region k: it reaches the region, and its byte for that place is this one
+pub record Written (s : State) (p a : ℕ) (bytes : List ℕ) (k x : ℕ) (byte : List ℕ) : Type 0 where
+  pub region : Region
+  pub reached : reach_of s p a (length bytes) ≡ Some region
+  pub number : region.number ≡ k
+  pub stored : IsByteAt (place_in s region a) bytes x byte
+
+-- the region that a weak input names; on an early device none, since its bytes have landed
+abbrev pub late_region : State → Transfer → Option Region
+late_region s t = if is_early_at s t.device then None else region_of s t
+
+-- The region in which the end of an input of process p stores its payload where other transfers may cover it: the one that
+-- a write of a copy input's range reaches now, or that a weak input names. A move input fills a region of its own.
+abbrev pub buffer_of : State → ℕ → Transfer → Class → Option Region
+buffer_of s p t Copy = write_reach_of s p (address_or_zero t.addr) t.len
+buffer_of s p t Share = late_region s t
+buffer_of s p t Move = None
+buffer_of s p t WeakMove = late_region s t
+
+-- where the buffer begins in that region
+abbrev pub start_in : State → Transfer → Class → Region → ℕ
+start_in s t Copy r = place_in s r (address_or_zero t.addr)
+start_in s t class r = t.offset
+
+-- The end of input j stored this byte at place x of region k: the payload's byte for that place of its buffer.
+pub record Finished (s : State) (j k x : ℕ) (byte : List ℕ) : Type 0 where
+  pub input : Transfer
+  pub pending : pending s j ≡ Some input
+  pub inward : IsTrue (is_inward input.direction)
+  pub owner : ℕ
+  pub owned : input.owner ≡ Some owner
+  pub region : Region
+  pub buffer : buffer_of s owner input input.class ≡ Some region
+  pub number : region.number ≡ k
+  pub stored : IsByteAt (start_in s input input.class region) input.payload x byte
+
+-- this event stored this byte at place x of region or orphan k
+abbrev pub Stores : State → Event → ℕ → ℕ → List ℕ → Type 0
+Stores s (Write p a bytes) k x byte = Written s p a bytes k x byte
+Stores s (Recv d n) k x byte = Landed s d k x byte
+Stores s (Finish j) k x byte = Finished s j k x byte
+Stores s _ k x byte = ⊥
+
+-- Where a pending weak transfer covers a byte before and after an event, the byte stays, or the event stored the new
+-- one there. So the region may go, but the byte stays.
 abbrev pub CoveredBytesStay : Type 0
-CoveredBytesStay = (s : State) (e : Event) (m : Mark) (k x : ℕ) → IsTrue (is_whole e) → IsOrderly s → may_store e ≡ false
-    → IsTrue (list_any (covers k x) s.transfers) → IsTrue (list_any (covers k x) (step s e m).0.transfers) → bytes_of (step s e m).0 k x 1 ≡ bytes_of s k x 1
+CoveredBytesStay = (s : State) (e : Event) (m : Mark) (k x : ℕ) → IsTrue (is_whole e) → IsOrderly s → IsTrue (list_any (covers k x) s.transfers) → IsTrue (list_any (covers k x) (step s e m).0.transfers)
+    → (bytes_of (step s e m).0 k x 1 ≡ bytes_of s k x 1) ⊎ Stores s e k x (bytes_of (step s e m).0 k x 1)
+
+-- this byte stands at place x of region or orphan k in each of these states
+abbrev pub StandsIn : List State → ℕ → ℕ → List ℕ → Type 0
+StandsIn run k x byte = All (λ (s : State). bytes_of s k x 1 ≡ byte) run
+
+-- one of these steps stored this byte there, and it stands there in every later state
+abbrev pub WasStored : State → List Event → List Reply → ℕ → ℕ → List ℕ → Type 0
+WasStored s (e ∷ es) (r ∷ rs) k x byte =
+    let next = (step s e (mark_of r)).0 in
+    (Stores s e k x byte × StandsIn (states next es rs) k x byte) ⊎ WasStored next es rs k x byte
+WasStored s es rs k x byte = ⊥
+
+-- A transfer is t in the first state of a run and u in the last one: both cover the same places, and the last byte of
+-- such a place stands there in all states, or was stored since.
+pub record KeepsByte (s : State) (es : List Event) (rs : List Reply) (last : State) (k x : ℕ) (t u : Transfer) : Type 0 where
+  pub place : covers k x u ≡ covers k x t
+  pub byte : IsTrue (covers k x t) → StandsIn (states s es rs) k x (bytes_of last k x 1) ⊎ WasStored s es rs k x (bytes_of last k x 1)
+
+-- So it is from the call of a weak transfer on until it ends: each byte that it covers stays until a write, a `done` or
+-- a receive step stores another one in its place.
+abbrev pub WeakTransfersKeepBytes : Type 0
+WeakTransfersKeepBytes = (s : State) (es : List Event) (rs : List Reply) (last : State) (n k x : ℕ) (t u : Transfer) → IsOrderly s → All (λ (e : Event). IsTrue (is_whole e)) es → Follows s es rs last → pending s n ≡ Some t → pending last n ≡ Some u → KeepsByte s es rs last k x t u

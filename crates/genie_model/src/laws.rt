@@ -1,6 +1,6 @@
 //! Laws of the flat machine.
 ghost use Rattle.std.specs.Prelude.{◌≡◌, length};
-ghost use Rattle.genie_model.specs.Integrity.{OutputsKeepIntegrity, InputsKeepIntegrity, CoveredBytesStay};
+ghost use Rattle.genie_model.specs.Integrity.{OutputsKeepIntegrity, InputsKeepIntegrity, CoveredBytesStay, WeakTransfersKeepBytes};
 ghost use Rattle.genie_model.specs.Laws.{StepsGrow, PlainStepsShowNoFault, RefusalsChangeNothing, StepsKeepConfig, LevelsStepAlike, ThresholdsStepAlike, RunsAlike, RunsCount, MovesAreNotLost, Stays, RunsStayOrderly};
 ghost use Rattle.genie_model.specs.Orderly.{RegionsAreApart, WiredIsBounded, CommittedIsBounded, NumbersRise, NumbersDiffer, OrphansAreNamed, OrphansRise, OrphanPlacesRise, OrphansAreTidy, RangesLie, HeldForOne, PostedAreInputs, MatchedAreInputs, DevicesAreConfigs};
 ghost use Rattle.genie_model.specs.Rows.{WorkedRows};
@@ -168,11 +168,17 @@ pub fn inputs_keep_integrity()
     ensures { InputsKeepIntegrity }
 {}
 
-/// Every event but a write, a receive step and `done` leaves each byte that a pending weak transfer covers before and
-/// after it.
-#[tactic(auto, using(crate::proofs::Lasting::covered_bytes_stay))]
+/// Every event leaves a byte that a pending weak transfer covers before and after it, but where it is a write, a receive
+/// step or a `done` that stores the new byte there.
+#[tactic(auto, using(crate::proofs::Storing::covered_bytes_stay))]
 pub fn covered_bytes_stay()
     ensures { CoveredBytesStay }
+{}
+
+/// From its call on until it ends, a weak transfer covers the same places, and each byte there stays until a write, a
+/// receive step or a `done` stores another one in its place.
+pub fn weak_transfers_keep_bytes()
+    ensures { WeakTransfersKeepBytes }
 {}
 
 /// The definitions compute the worked rows: for each class of semantics and each kind of device one script at least,
