@@ -1,6 +1,6 @@
 -- What is known of an accepted event that makes a region or a process.
 use Rattle.std.proofs.Common.{◌≡◌, ℕ, zero, suc, ◌+◌, ◌-◌, ◌*◌, ◌<◌, ◌≤◌, Bool, true, false, not, List, [], ◌∷◌, ◌++◌, length, refl, arith}
-use Rattle.std.specs.Prelude.{Option, Some, None, All, IsTrue, cond, find, unwrap_or, sum_by, nat_le, nat_lt, ◌||◌}
+use Rattle.std.specs.Prelude.{Option, Some, None, All, IsTrue, cond, find, unwrap_or, sum_by, nat_le, nat_lt, ◌||◌, is_some}
 use Rattle.std.specs.List.{range_with_len}
 use Rattle.std.proofs.lemmas.Bool.Decides.{nat_tests}
 use Rattle.std.proofs.lemmas.List.Elements.{All-cons, All-head, All-tail, All-weaker}
@@ -19,7 +19,7 @@ use Rattle.genie_base.specs.declared.semantics.Class.TheVariants.{Copy, Share, M
 use Rattle.genie_model.specs.Inputs.{pages_for}
 use Rattle.genie_model.specs.Orderly.{IsIn}
 use Rattle.genie_model.specs.Refusing.{causes, refuse, first_cause, call_causes, new_region_causes, sys_causes, buffer_causes, target_causes, must_make, most_of, over_backing, accessible_pages, is_within}
-use Rattle.genie_model.specs.Regions.{extent_of, regions_at, is_here, is_alive, place_of, committed}
+use Rattle.genie_model.specs.Regions.{extent_of, regions_at, is_alive, place_of, committed}
 use Rattle.genie_model.specs.State.{State, Region}
 use Rattle.genie_model.specs.Tables.{entry}
 use Rattle.genie_model.proofs.Causes.{first_none, both_none, most_end}
@@ -66,11 +66,11 @@ map_accepted s p g n e =
     record { some = range.0; most = range.1; area = place.0; free = all_free s p g n place.1; few = some_below 32 (length (regions_at s p)) (none 3 d (omega arith)); backing = fits s n (none 4 d (omega arith)) }
 
 -- what a search finds, where something holds of all that it goes through
-found : {X : Type 0} (P : X → Type 0) (x d : X) (b : Bool) (later : Option X) (passes : X → Bool) → passes x ≡ b → P x → (is_here later ≡ true → (passes (unwrap_or later d) ≡ true) × P (unwrap_or later d)) → is_here (cond b (Some x) later) ≡ true → (passes (unwrap_or (cond b (Some x) later) d) ≡ true) × P (unwrap_or (cond b (Some x) later) d)
+found : {X : Type 0} (P : X → Type 0) (x d : X) (b : Bool) (later : Option X) (passes : X → Bool) → passes x ≡ b → P x → (is_some later ≡ true → (passes (unwrap_or later d) ≡ true) × P (unwrap_or later d)) → is_some (cond b (Some x) later) ≡ true → (passes (unwrap_or (cond b (Some x) later) d) ≡ true) × P (unwrap_or (cond b (Some x) later) d)
 found P x d true later passes t h rest e = (t, h)
 found P x d false later passes f h rest e = rest e
 
-pub found_or : {X : Type 0} (P : X → Type 0) (p : X → Bool) (d : X) (xs : List X) → All P xs → is_here (find p xs) ≡ true → (p (unwrap_or (find p xs) d) ≡ true) × P (unwrap_or (find p xs) d)
+pub found_or : {X : Type 0} (P : X → Type 0) (p : X → Bool) (d : X) (xs : List X) → All P xs → is_some (find p xs) ≡ true → (p (unwrap_or (find p xs) d) ≡ true) × P (unwrap_or (find p xs) d)
 found_or P p d [] h e = absurd (cc)
 found_or P p d (x ∷ xs) h e = found P x d (p x) (find p xs) p refl (All-head P x xs h) (found_or P p d xs (All-tail P x xs h)) e
 
@@ -86,7 +86,7 @@ here false e = absurd (cc)
 new_region : (s : State) (p n : ℕ) → 1 ≤ n → n ≤ 64 → All Fails (new_region_causes s p n) → IsNew s p Sys (unwrap_or (place_of s p n) 0) n
 new_region s p n some most none =
     let d : Bool × Refusal = (true, Proc) in
-    let at = found_or (λ k. (512 ≤ k) × (k < 512 + (513 - n))) (λ k. is_free extent_of k n (regions_at s p)) 0 (range_with_len 512 (513 - n)) (in_range 512 (513 - n)) (here (is_here (place_of s p n)) (none 1 d (omega arith))) in
+    let at = found_or (λ k. (512 ≤ k) × (k < 512 + (513 - n))) (λ k. is_free extent_of k n (regions_at s p)) 0 (range_with_len 512 (513 - n)) (in_range 512 (513 - n)) (here (is_some (place_of s p n)) (none 1 d (omega arith))) in
     record { some = some; most = most; area = (at.1.0, omega (arith, at.1.1)); free = all_free s p (unwrap_or (place_of s p n) 0) n at.0; few = some_below 32 (length (regions_at s p)) (none 0 d (omega arith)); backing = fits s n (none 2 d (omega arith)) }
 
 pub alloc_accepted : (s : State) (p n : ℕ) → refuse s (Alloc p n) ≡ None → IsNew s p Sys (unwrap_or (place_of s p n) 0) n

@@ -19,7 +19,7 @@ use Rattle.genie_base.specs.declared.semantics.Class.{Class}
 use Rattle.genie_base.specs.declared.semantics.Class.TheVariants.{Copy, Share, Move, WeakMove}
 use Rattle.genie_base.specs.declared.semantics.Direction.TheVariants.{Outward, Inward}
 use Rattle.genie_model.specs.State.{State, Region, Transfer}
-use Rattle.genie_model.specs.Regions.{extent_of, regions_at, is_here, reach_of}
+use Rattle.genie_model.specs.Regions.{extent_of, regions_at, reach_of}
 use Rattle.genie_model.specs.Pending.{wired, cost_of}
 use Rattle.genie_model.specs.Outputs.{place_reached}
 use Rattle.genie_model.specs.Inputs.{posted, address_or_zero}
@@ -65,7 +65,7 @@ reached_start page a n (x ∷ regions) r e =
     rw (← same) low)
     (λ f e. reached_start page a n regions r e) e
 
-placed_span : (s : State) (a n : ℕ) (o : Option Region) → 0 < s.config.page → ((r : Region) → o ≡ Some r → r.start * s.config.page ≤ a) → is_here o ≡ true → span s.config.page (place_reached s o a) n ≡ span s.config.page a n
+placed_span : (s : State) (a n : ℕ) (o : Option Region) → 0 < s.config.page → ((r : Region) → o ≡ Some r → r.start * s.config.page ≤ a) → is_some o ≡ true → span s.config.page (place_reached s o a) n ≡ span s.config.page a n
 placed_span s a n None some low here = absurd (cc)
 placed_span s a n (Some r) some low here =
     let page : ℕ = s.config.page in
@@ -74,7 +74,7 @@ placed_span s a n (Some r) some low here =
     sym (subst (λ x. span page x n ≡ span page (a - r.start * page) n) from (span_shift page r.start (a - r.start * page) n some))
 
 -- the place of an address in its region begins as many pages as the address
-reached_span : (s : State) (p a n : ℕ) → Fits s.config → is_here (reach_of s p a n) ≡ true → span s.config.page (place_reached s (reach_of s p a n) a) n ≡ span s.config.page a n
+reached_span : (s : State) (p a n : ℕ) → Fits s.config → is_some (reach_of s p a n) ≡ true → span s.config.page (place_reached s (reach_of s p a n) a) n ≡ span s.config.page a n
 reached_span s p a n fits here = placed_span s a n (reach_of s p a n) (page_some s.config.page fits.page) (reached_start s.config.page a n (regions_at s p)) here
 
 pub none_holds : (rows : List (Bool × Refusal)) → first_cause rows ≡ None → All (λ (row : Bool × Refusal). row.0 ≡ false) rows

@@ -1,6 +1,6 @@
 -- What transfers name stays there in calls, and so does what the new one names.
 use Rattle.std.proofs.Common.{◌≡◌, ℕ, zero, suc, ◌*◌, ◌<◌, ◌≤◌, true, false, not, ◌||◌, ◌==◌, inl, inr, List, [], ◌∷◌, ◌++◌, length, refl, sym, ap, subst, ◌∙◌, eqb-true, true≢false, mul_comm, arith}
-use Rattle.std.specs.Prelude.{Option, Some, None}
+use Rattle.std.specs.Prelude.{Option, Some, None, is_some}
 use Rattle.std.specs.List.{list_any}
 use Rattle.std.proofs.lemmas.Bool.{and_parts, and_right, or_from, not-true, false_from_ne_true}
 use Rattle.std.proofs.lemmas.List.{length-replicate}
@@ -14,7 +14,7 @@ use Rattle.genie_base.specs.declared.semantics.Class.{Class}
 use Rattle.genie_base.specs.declared.semantics.Class.TheVariants.{Copy, Share, Move, WeakMove}
 use Rattle.genie_model.specs.State.{State, Region, Process, Transfer}
 use Rattle.genie_model.specs.Tables.{entry}
-use Rattle.genie_model.specs.Regions.{regions_at, queue_of, is_here, is_region, region_numbered, fresh, reach_of, with_state}
+use Rattle.genie_model.specs.Regions.{regions_at, queue_of, is_region, region_numbered, fresh, reach_of, with_state}
 use Rattle.genie_model.specs.Pending.{is_just, names, add_transfer}
 use Rattle.genie_model.specs.Space.{zeros_at_place, add_region, is_move}
 use Rattle.genie_model.specs.Outputs.{place_reached, number_of, output_of, moved_out, after_output}
@@ -75,11 +75,11 @@ module _ (s : State) (p : ℕ) (to : Address) (a n : ℕ) (r : Region) (o : IsOr
       let v = input_of s p Share to n None (Some r.number) (place_reached s (Some r) a) in
       push_stands s (add_transfer s v) v refl (reached_lies v refl refl) (joins_weak s.transfers v r.number refl refl reached_free) h)
 
-pub output_stands : (s : State) (p : ℕ) (class : Class) (to : Address) (a n : ℕ) (found : Option Region) → IsOrderly s → reach_of s p a n ≡ found → is_here found ≡ true → Stands s → Stands (after_output (add_transfer s (output_of s p class to a n found)) class found)
+pub output_stands : (s : State) (p : ℕ) (class : Class) (to : Address) (a n : ℕ) (found : Option Region) → IsOrderly s → reach_of s p a n ≡ found → is_some found ≡ true → Stands s → Stands (after_output (add_transfer s (output_of s p class to a n found)) class found)
 output_stands s p class to a n (Some r) o e here h = output_reached s p to a n r o e h class
 output_stands s p class to a n None o e here h = absurd (true≢false (sym here))
 
-share_stands : (s : State) (p : ℕ) (to : Address) (a n : ℕ) (found : Option Region) → IsOrderly s → reach_of s p a n ≡ found → is_here found ≡ true → Stands s → Stands (add_transfer s (input_of s p Share to n None (number_of found) (place_reached s found a)))
+share_stands : (s : State) (p : ℕ) (to : Address) (a n : ℕ) (found : Option Region) → IsOrderly s → reach_of s p a n ≡ found → is_some found ≡ true → Stands s → Stands (add_transfer s (input_of s p Share to n None (number_of found) (place_reached s found a)))
 share_stands s p to a n None o e here h = absurd (true≢false (sym here))
 share_stands s p to a n (Some r) o e here h = share_reached s p to a n r o e h (input_of s p Share to n None (Some r.number) (place_reached s (Some r) a)) refl
 
@@ -139,7 +139,7 @@ module _ (s : State) (p : ℕ) (to : Address) (n : ℕ) (o : IsOrderly s) (x : P
       (joins_first s.transfers u k refl unnamed)
       (state_stands s s.transfers h t k (with_state In) (moved_in_place s k) unmoved)
 
-  pub input_stands : (class : Class) (addr : Option ℕ) → (is_system class ≡ false → is_here (reach_of s p (address_or_zero addr) n) ≡ true) → Stands (add_transfer (with_buffer s p class n) (posted s p class to addr n))
+  pub input_stands : (class : Class) (addr : Option ℕ) → (is_system class ≡ false → is_some (reach_of s p (address_or_zero addr) n) ≡ true) → Stands (add_transfer (with_buffer s p class n) (posted s p class to addr n))
   input_stands Copy addr here = let u = input_of s p Copy to n addr None 0 in push_stands s (add_transfer s u) u refl tt (joins_none s.transfers u refl) h
   input_stands Share addr here = share_stands s p to (address_or_zero addr) n (reach_of s p (address_or_zero addr) n) o refl (here refl) h
   input_stands Move addr here =

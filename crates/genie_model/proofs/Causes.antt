@@ -1,6 +1,6 @@
 -- The first cause of several lists, and what is known where there is none.
 use Rattle.std.proofs.Common.{◌≡◌, ℕ, ◌+◌, ◌*◌, ◌<◌, ◌≤◌, Bool, true, false, not, List, [], ◌∷◌, ◌++◌, length, refl, arith}
-use Rattle.std.specs.Prelude.{Option, Some, None, IsSome, cond, find, nat_le, nat_lt, ◌&&◌}
+use Rattle.std.specs.Prelude.{Option, Some, None, IsSome, cond, find, nat_le, nat_lt, ◌&&◌, is_some}
 use Rattle.std.specs.Option.{option_map}
 use Rattle.std.proofs.lemmas.Bool.Decides.{nat_tests}
 use Rattle.genie_base.specs.Configs.{DeviceConfig, most}
@@ -11,7 +11,7 @@ use Rattle.genie_base.specs.declared.refusal.Refusal.TheVariants.{Proc, Dev, Ran
 use Rattle.genie_base.specs.declared.semantics.Class.{Class}
 use Rattle.genie_base.specs.declared.semantics.Class.TheVariants.{Copy, Share, Move, WeakMove}
 use Rattle.genie_model.specs.State.{State}
-use Rattle.genie_model.specs.Regions.{regions_at, is_here, is_alive, place_of, reach_of, write_reach_of}
+use Rattle.genie_model.specs.Regions.{regions_at, is_alive, place_of, reach_of, write_reach_of}
 use Rattle.genie_model.specs.Pending.{wired}
 use Rattle.genie_model.specs.Refusing.{first_cause, call_causes, new_region_causes, app_causes, sys_causes, buffer_causes, target_causes, must_make, most_of, has_input, over_backing, frames_to_wire}
 use Rattle.genie_model.specs.Inputs.{pages_for}
@@ -49,10 +49,6 @@ right : (a b : Bool) → (a && b) ≡ true → b ≡ true
 right true b e = e
 right false b e = absurd (cc)
 
-pub some_here : {X : Type 0} (o : Option X) → is_here o ≡ true → IsSome o
-some_here None e = absurd (cc)
-some_here (Some x) e = refl
-
 -- in a list of causes that begins with a test of a range, none of which holds
 pub range_passes : (a : Bool) (w : Refusal) (rest : List (Bool × Refusal)) → first_cause ((not a, w) ∷ rest) ≡ None → a ≡ true
 range_passes a w rest e = not_false a (first_none (not a, w) rest e).0
@@ -88,7 +84,7 @@ record HasRoom (s : State) (p : ℕ) (class : Class) (n most : ℕ) : Type 0 whe
   room : must_make s p class n ≡ true → length (regions_at s p) < 32
 
 few_regions : (s : State) (p pages : ℕ) → first_cause (new_region_causes s p pages) ≡ None → length (regions_at s p) < 32
-few_regions s p pages e = fewer 32 (length (regions_at s p)) (first_none (nat_le 32 (length (regions_at s p)), Regions) ((not (is_here (place_of s p pages)), Space) ∷ (over_backing s pages, Backing) ∷ []) e).0
+few_regions s p pages e = fewer 32 (length (regions_at s p)) (first_none (nat_le 32 (length (regions_at s p)), Regions) ((not (is_some (place_of s p pages)), Space) ∷ (over_backing s pages, Backing) ∷ []) e).0
 
 made : (s : State) (p pages : ℕ) (b : Bool) → first_cause (cond b (new_region_causes s p pages) []) ≡ None → b ≡ true → length (regions_at s p) < 32
 made s p pages true e t = few_regions s p pages e
@@ -102,8 +98,8 @@ sys_room s p class most n e =
 
 app_short : (s : State) (p most a n : ℕ) → first_cause (app_causes s p most a n) ≡ None → n ≤ most
 app_short s p most a n e =
-    let fits : Bool = nat_le n most && is_here (reach_of s p a n) in
-    at_most n most (left (nat_le n most) (is_here (reach_of s p a n)) (range_passes fits Range ((not (is_here (write_reach_of s p a n)), Denied) ∷ []) e))
+    let fits : Bool = nat_le n most && is_some (reach_of s p a n) in
+    at_most n most (left (nat_le n most) (is_some (reach_of s p a n)) (range_passes fits Range ((not (is_some (write_reach_of s p a n)), Denied) ∷ []) e))
 
 buffer_room : (s : State) (p : ℕ) (class : Class) (most a n : ℕ) → first_cause (buffer_causes s p class most a n) ≡ None → HasRoom s p class n most
 buffer_room s p Copy most a n e = record { short = app_short s p most a n e; room = λ t. absurd (cc) }

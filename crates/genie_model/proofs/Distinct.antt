@@ -1,6 +1,6 @@
 -- No two regions or orphans have the same number after a step.
 use Rattle.std.proofs.Common.{◌≡◌, ℕ, zero, suc, ◌≤◌, Bool, true, false, not, ◌||◌, nat_lt, List, [], ◌∷◌, length, All, refl, sym, subst, ltb-false, arith}
-use Rattle.std.specs.Prelude.{Option, Some, None, sum_by, if◌then◌else◌, ◌==◌}
+use Rattle.std.specs.Prelude.{Option, Some, None, sum_by, if◌then◌else◌, ◌==◌, is_some}
 use Rattle.std.proofs.lemmas.Bool.{or_parts}
 use Rattle.std.proofs.lemmas.List.Elements.{All-head, All-tail}
 use Rattle.std.proofs.lemmas.List.Sums.{length-filter, count_by-le-length}
@@ -22,7 +22,7 @@ use Rattle.genie_model.specs.Orderly.{IsOrderly, NumbersDiffer, numbers}
 use Rattle.genie_model.specs.Refusing.{refuse, over_backing, accessible_pages}
 use Rattle.genie_model.specs.State.{State, Region, Process, Transfer}
 use Rattle.genie_model.specs.Tables.{entry}
-use Rattle.genie_model.specs.Regions.{regions_of, regions_at, is_here, is_alive, write_reach_of, reach_of, change_region, with_mode, with_state, place_in, put}
+use Rattle.genie_model.specs.Regions.{regions_of, regions_at, is_alive, write_reach_of, reach_of, change_region, with_mode, with_state, place_in, put}
 use Rattle.genie_model.specs.Pending.{first_queued, pending, is_early_at, add_transfer}
 use Rattle.genie_model.specs.Space.{exit, remove, remove_found, region_from, protect_found, spawned, accessible, fork, stored, zeros, zeros_at_place}
 use Rattle.genie_model.specs.Outputs.{after_output, moved_out}
@@ -132,7 +132,7 @@ few_at [] p each = omega arith
 few_at (x ∷ processes) zero each = All-head (λ (x : Option Process). length (regions_of x) ≤ 32) x processes each
 few_at (x ∷ processes) (suc p) each = few_at processes p (All-tail (λ (x : Option Process). length (regions_of x) ≤ 32) x processes each)
 
-nothing_here : {X : Type 0} (o : Option X) → is_here o ≡ false → o ≡ None
+nothing_here : {X : Type 0} (o : Option X) → is_some o ≡ false → o ≡ None
 nothing_here None e = refl
 nothing_here (Some x) e = absurd (cc)
 

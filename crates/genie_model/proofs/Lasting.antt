@@ -1,6 +1,6 @@
 -- Every event but those that store bytes leaves a byte that a pending weak transfer covers.
 use Rattle.std.proofs.Common.{◌≡◌, ℕ, zero, suc, ◌+◌, ◌<◌, Bool, true, false, not, ◌&&◌, ◌||◌, ◌==◌, ◌⊎◌, inl, inr, ⊎_elim, List, [], ◌∷◌, ◌++◌, map, filter, find, AllPairs, ◌≢◌, refl, sym, ap, subst, ◌∙◌, eqb-true, eq-eqb, ne_eqb, true≢false, arith}
-use Rattle.std.specs.Prelude.{Option, Some, None, IsTrue, ⊤, nat_le, nat_lt, sum_by, option_and_then}
+use Rattle.std.specs.Prelude.{Option, Some, None, IsTrue, ⊤, nat_le, nat_lt, sum_by, option_and_then, is_some}
 use Rattle.std.specs.List.{list_any}
 use Rattle.std.proofs.lemmas.Bool.{cases_Bool, cond_both, and_parts}
 use Rattle.std.proofs.lemmas.Bool.Decides.{nat_tests}
@@ -24,7 +24,7 @@ use Rattle.genie_model.specs.Orderly.{LiesInRegion, LiesInOrphan, Lies, orphan_n
 use Rattle.genie_model.specs.Outputs.{output_of, moved_out_of, after_output}
 use Rattle.genie_model.specs.Pending.{is_just, names, names_weakly, covers, first_queued, pending, add_transfer}
 use Rattle.genie_model.specs.Refusing.{over_backing, accessible_pages, refuse}
-use Rattle.genie_model.specs.Regions.{extent_of, regions_of, regions_at, is_here, is_alive, reach_of, is_region, has_number, region_numbered, is_orphan, orphan_numbered, is_within_range, byte_within, bytes_within, orphan_part, region_part, bytes_of, change_process, changed, changed_in, with_state, with_mode}
+use Rattle.genie_model.specs.Regions.{extent_of, regions_of, regions_at, is_alive, reach_of, is_region, has_number, region_numbered, is_orphan, orphan_numbered, is_within_range, byte_within, bytes_within, orphan_part, region_part, bytes_of, change_process, changed, changed_in, with_state, with_mode}
 use Rattle.genie_model.specs.Sending.{must_stage, send_next}
 use Rattle.genie_model.specs.Space.{spawned, with_region, add_region, zeros, zeros_at_place, placed, as_orphan, add_orphan, without_region, remove, remove_found, cut, is_named, tidy, starts_at, region_from, protect_found, accessible, copy_of, add_copies, add_orphans, exit}
 use Rattle.genie_model.specs.State.{State, Region, Orphan, Process, Transfer}
@@ -271,7 +271,7 @@ module _ (k x : ℕ) (b : List ℕ) where
   IsVacant s (Fork p q) = entry s.processes q ≡ None
   IsVacant s _ = ⊤
 
-  none_here : (o : Option Process) → is_here o ≡ false → o ≡ None
+  none_here : (o : Option Process) → is_some o ≡ false → o ≡ None
   none_here None e = refl
   none_here (Some p) e = absurd (cc)
 

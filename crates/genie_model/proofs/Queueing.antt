@@ -1,6 +1,6 @@
 -- What each event does to the transfers that wait for a device, and to what it receives.
 use Rattle.std.proofs.Common.{◌≡◌, ℕ, zero, suc, ◌+◌, ◌≤◌, Bool, true, false, not, ◌&&◌, ◌==◌, ⊎_elim, List, [], ◌∷◌, ◌++◌, length, map, filter, get_or, append-nil, ◌≢◌, refl, sym, ap, subst, ◌∙◌, eqb-true, ne_eqb, true≢false, arith}
-use Rattle.std.specs.Prelude.{Option, Some, None, ⊤, slice_set, drop, if◌then◌else◌}
+use Rattle.std.specs.Prelude.{Option, Some, None, ⊤, slice_set, drop, if◌then◌else◌, is_some}
 use Rattle.std.proofs.lemmas.Bool.{cases_Bool, cases_eq, cond_both, cond-true, cond-false, and_left, and_right, and_parts, not-false}
 use Rattle.std.proofs.lemmas.List.{length-take-le, length-drop}
 use Rattle.genie_base.specs.Configs.{Config, DeviceConfig}
@@ -25,7 +25,7 @@ use Rattle.genie_model.specs.declared.phase.Phase.{Phase}
 use Rattle.genie_model.specs.declared.phase.Phase.TheVariants.{Queued}
 use Rattle.genie_model.specs.State.{State, Region, Transfer, Device, Datagram}
 use Rattle.genie_model.specs.Tables.{without, entry}
-use Rattle.genie_model.specs.Regions.{is_here, place_in, reach_of, write_reach_of, regions_at, put}
+use Rattle.genie_model.specs.Regions.{place_in, reach_of, write_reach_of, regions_at, put}
 use Rattle.genie_model.specs.Pending.{is_queued, is_posted, is_ready, is_just, is_early_at, is_numbered, pending, waits_for, first_queued, add_transfer}
 use Rattle.genie_model.specs.Refusing.{has_output, is_finished, may_cancel, causes, first_cause, refuse}
 use Rattle.genie_model.specs.Space.{Outcome, remove_found, region_from, protect_found, add_copies, add_region, copy_of, spawned, accessible, stored, bytes_reached, is_move, disowned, is_posted_by, exit}
@@ -244,7 +244,7 @@ after_like s Share (Some r) = refl
 after_like s Move (Some r) = refl
 after_like s WeakMove (Some r) = refl
 
-output_goes : (d : ℕ) (s : State) (p : ℕ) (class : Class) (to : Address) (a n : ℕ) (o : Option Region) → IsOrderly s → Meets d s → reach_of s p a n ≡ o → is_here o ≡ true
+output_goes : (d : ℕ) (s : State) (p : ℕ) (class : Class) (to : Address) (a n : ℕ) (o : Option Region) → IsOrderly s → Meets d s → reach_of s p a n ≡ o → is_some o ≡ true
     → Goes d s (after_output (add_transfer s (output_of s p class to a n o)) class o) (λ later. if to.device == d then call s class to a n o later ∷ [] else [])
 output_goes d s p class to a n None orderly meets e here = absurd (true≢false (sym here))
 output_goes d s p class to a n (Some r) orderly meets e here =
@@ -316,7 +316,7 @@ recv_goes d s dev n o meets =
 
 -- what is known of an event that isn't refused
 abbrev Allowed : State → Event → Type 0
-Allowed s (Output p sem d port flow a n) = is_here (reach_of s p a n) ≡ true
+Allowed s (Output p sem d port flow a n) = is_some (reach_of s p a n) ≡ true
 Allowed s (Send d n) = has_output (entry s.config.devices d) ≡ true
 Allowed s (Finish k) = is_finished (pending s k) ≡ true
 Allowed s (Cancel k) = may_cancel (pending s k) ≡ true

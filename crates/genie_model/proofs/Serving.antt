@@ -1,6 +1,6 @@
 -- What transfers name is there after every step.
 use Rattle.std.proofs.Common.{◌≡◌, ℕ, ◌<◌, Bool, true, false, not, List, length, refl, true≢false, arith}
-use Rattle.std.specs.Prelude.{Option, Some, None, ⊤, nat_lt, ◌==◌}
+use Rattle.std.specs.Prelude.{Option, Some, None, ⊤, nat_lt, ◌==◌, is_some}
 use Rattle.std.proofs.lemmas.Bool.{cond_both, and_parts, or_parts}
 use Rattle.std.proofs.lemmas.Bool.Decides.{nat_tests}
 use Rattle.genie_base.specs.Regions.{is_accessible}
@@ -18,7 +18,7 @@ use Rattle.genie_base.specs.declared.semantics.Class.TheVariants.{Copy, Share, M
 use Rattle.genie_model.specs.Refusing.{first_cause, causes, target_causes, refuse}
 use Rattle.genie_model.specs.State.{State, Region}
 use Rattle.genie_model.specs.Tables.{entry}
-use Rattle.genie_model.specs.Regions.{regions_at, is_here, is_alive, place_in, reach_of}
+use Rattle.genie_model.specs.Regions.{regions_at, is_alive, place_in, reach_of}
 use Rattle.genie_model.specs.Pending.{pending}
 use Rattle.genie_model.specs.Inputs.{address_or_zero}
 use Rattle.genie_model.specs.Space.{zeros, zeros_at_place, remove_found, region_from, starts_at, protect_found, stored}
@@ -40,15 +40,15 @@ use Rattle.genie_model.proofs.Unused.{few_numbers}
 abbrev Allowed : State → Event → Type 0
 Allowed s (Spawn p) = entry s.processes p ≡ None
 Allowed s (Fork p q) = (q < 16) × (entry s.processes q ≡ None)
-Allowed s (Output p sem d port flow a n) = is_here (reach_of s p a n) ≡ true
-Allowed s (Input p sem d port flow a n) = (is_alive s p ≡ true) × (is_system (class_of sem) ≡ false → is_here (reach_of s p (address_or_zero a) n) ≡ true)
+Allowed s (Output p sem d port flow a n) = is_some (reach_of s p a n) ≡ true
+Allowed s (Input p sem d port flow a n) = (is_alive s p ≡ true) × (is_system (class_of sem) ≡ false → is_some (reach_of s p (address_or_zero a) n) ≡ true)
 Allowed s _ = ⊤
 
-none_here : {X : Type 0} (o : Option X) → is_here o ≡ false → o ≡ None
+none_here : {X : Type 0} (o : Option X) → is_some o ≡ false → o ≡ None
 none_here None e = refl
 none_here (Some x) e = absurd (cc)
 
-alive_entry : {X : Type 0} (o : Option X) → is_here o ≡ true → (x : X) × (o ≡ Some x)
+alive_entry : {X : Type 0} (o : Option X) → is_some o ≡ true → (x : X) × (o ≡ Some x)
 alive_entry None e = absurd (cc)
 alive_entry (Some x) e = (x, refl)
 
@@ -57,7 +57,7 @@ not_false true e = refl
 not_false false e = absurd (cc)
 
 -- a buffer of the application's is reached
-app_here : (s : State) (p : ℕ) (class : Class) (d a n : ℕ) → first_cause (target_causes s p class d a n) ≡ None → is_system class ≡ false → is_here (reach_of s p a n) ≡ true
+app_here : (s : State) (p : ℕ) (class : Class) (d a n : ℕ) → first_cause (target_causes s p class d a n) ≡ None → is_system class ≡ false → is_some (reach_of s p a n) ≡ true
 app_here s p Copy d a n e app = second_holds _ _ (none_holds (target_causes s p Copy d a n) e 2 (true, cause.Proc) (omega arith))
 app_here s p Share d a n e app = second_holds _ _ (none_holds (target_causes s p Share d a n) e 2 (true, cause.Proc) (omega arith))
 app_here s p Move d a n e app = absurd (true≢false app)

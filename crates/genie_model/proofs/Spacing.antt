@@ -1,6 +1,6 @@
 -- What is so of the processes and their regions after every step.
 use Rattle.std.proofs.Common.{◌≡◌, ℕ, zero, suc, ◌+◌, ◌*◌, ◌<◌, ◌≤◌, Bool, true, false, not, List, [], ◌∷◌, length, refl, ap, ◌∙◌, arith, length-set}
-use Rattle.std.specs.Prelude.{Option, Some, None, All, cond, sum_by, slice_set, ◌==◌, unwrap_or}
+use Rattle.std.specs.Prelude.{Option, Some, None, All, cond, sum_by, slice_set, ◌==◌, unwrap_or, is_some}
 use Rattle.std.proofs.lemmas.Bool.Decides.{nat_tests}
 use Rattle.std.proofs.lemmas.List.{length-replicate}
 use Rattle.std.proofs.lemmas.List.Elements.{All-head, All-tail, All-weaker, All-set, All-filter}
@@ -24,7 +24,7 @@ use Rattle.genie_model.specs.Orderly.{IsOrderly, IsRegion, AreApart, RegionsAreA
 use Rattle.genie_model.specs.Outputs.{output_of}
 use Rattle.genie_model.specs.Pending.{first_queued, pending}
 use Rattle.genie_model.specs.Refusing.{refuse, must_make, accessible_pages}
-use Rattle.genie_model.specs.Regions.{extent_of, regions_of, regions_at, region_pages, committed, is_here, place_of, reach_of, change_process}
+use Rattle.genie_model.specs.Regions.{extent_of, regions_of, regions_at, region_pages, committed, place_of, reach_of, change_process}
 use Rattle.genie_model.specs.Space.{Outcome, spawned, zeros, zeros_at_place, with_region, add_region, region_from, accessible, copy_of, add_copies, fork}
 use Rattle.genie_model.specs.State.{State, Region, Process}
 use Rattle.genie_model.specs.Step.{answer, marked, accept, perform, failed, may_fail, uses_store, with_budget}
@@ -161,7 +161,7 @@ fork_spaced s p q e h =
       backing = omega (arith, pages, fits, accessible_sum regions);
     }) (kept (spawned_keeps s q) h)
 
-weak_spaced : (s : State) (p n : ℕ) (o : Option ℕ) → (not (is_here o) ≡ true → IsNew s p Sys (unwrap_or (place_of s p (pages_for s n)) 0) (pages_for s n)) → IsSpaced s → IsSpaced (weak_buffer s p n o)
+weak_spaced : (s : State) (p n : ℕ) (o : Option ℕ) → (not (is_some o) ≡ true → IsNew s p Sys (unwrap_or (place_of s p (pages_for s n)) 0) (pages_for s n)) → IsSpaced s → IsSpaced (weak_buffer s p n o)
 weak_spaced s p n None new h = added s p (zeros_at_place s In p (pages_for s n)) (new refl) (length-replicate (pages_for s n * s.config.page) 0) h
 weak_spaced s p n (Some k) new h = kept (moved_in_keeps s k) h
 

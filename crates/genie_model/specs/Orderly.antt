@@ -1,5 +1,5 @@
 -- What is so in every state that a run reaches.
-use Rattle.std.specs.Prelude.{◌≡◌, ◌≢◌, ◌⊎◌, ℕ, ◌+◌, ◌*◌, ◌<◌, ◌≤◌, Bool, true, false, IsTrue, ◌&&◌, ◌==◌, List, ◌++◌, length, map, flat_map, count_by, All, AllPairs, Option, None, Some, IfSome, ⊤}
+use Rattle.std.specs.Prelude.{◌≡◌, ◌≢◌, ◌⊎◌, ℕ, ◌+◌, ◌*◌, ◌<◌, ◌≤◌, Bool, true, false, IsTrue, ◌&&◌, ◌==◌, List, ◌++◌, length, map, flat_map, count_by, All, AllPairs, Option, None, Some, IfSome, ⊤, is_some}
 use Rattle.std.specs.List.{list_any}
 use Rattle.std.specs.Option.{option_map}
 use Rattle.genie_base.specs.Configs.{DeviceConfig, Fits}
@@ -17,7 +17,7 @@ use Rattle.genie_model.specs.declared.datagram.Fate.{Fate}
 use Rattle.genie_model.specs.declared.datagram.Fate.TheVariants.{Matched, Skipped, Gathering}
 use Rattle.genie_model.specs.State.{State, Region, Orphan, Process, Transfer, Device, Datagram}
 use Rattle.genie_model.specs.Tables.{entry}
-use Rattle.genie_model.specs.Regions.{extent_of, regions_of, regions_at, is_here, is_region, region_numbered, orphan_numbered, committed}
+use Rattle.genie_model.specs.Regions.{extent_of, regions_of, regions_at, is_region, region_numbered, orphan_numbered, committed}
 use Rattle.genie_model.specs.Pending.{names, wired, is_posted, is_inward}
 use Rattle.genie_model.specs.Space.{is_move, is_named, tidy}
 use Rattle.genie_model.specs.Tables.{entry}
@@ -124,11 +124,11 @@ holds s (Some p) k = list_any (λ (r : Region). is_region k r && is_held r.state
 -- owner holds, until the owner is gone
 abbrev pub MayName : State → Class → Direction → Option ℕ → Option ℕ → Type 0
 MayName s Copy direction owner region = region ≡ None
-MayName s Share direction owner region = IsTrue (is_here region)
+MayName s Share direction owner region = IsTrue (is_some region)
 MayName s Move Outward owner region = region ≡ None
 MayName s Move Inward owner None = owner ≡ None
 MayName s Move Inward owner (Some k) = IsTrue (holds s owner k)
-MayName s WeakMove direction owner region = IsTrue (is_here region)
+MayName s WeakMove direction owner region = IsTrue (is_some region)
 
 abbrev pub moves_into : ℕ → Transfer → Bool
 moves_into k t = is_move t.class && names k t

@@ -1,5 +1,5 @@
 -- The receive step.
-use Rattle.std.specs.Prelude.{ℕ, ◌+◌, ◌-◌, ◌==◌, Bool, true, false, not, ◌&&◌, ◌||◌, nat_le, nat_lt, min, List, [], ◌∷◌, ◌++◌, length, take, drop, slice_set, Option, None, Some, if◌then◌else◌}
+use Rattle.std.specs.Prelude.{ℕ, ◌+◌, ◌-◌, ◌==◌, Bool, true, false, not, ◌&&◌, ◌||◌, nat_le, nat_lt, min, List, [], ◌∷◌, ◌++◌, length, take, drop, slice_set, Option, None, Some, if◌then◌else◌, is_none, is_some}
 use Rattle.genie_base.specs.Configs.{most}
 use Rattle.genie_base.specs.Headers.{header_taken, payload_taken, is_whole_header, is_valid_header, port_in, len_in, flow_in}
 use Rattle.genie_base.specs.Transfers.{is_strong}
@@ -13,7 +13,7 @@ use Rattle.genie_model.specs.State.{State, Transfer, Device, Datagram}
 use Rattle.genie_model.specs.declared.datagram.Fate.{Fate}
 use Rattle.genie_model.specs.declared.datagram.Fate.TheVariants.{Matched, Skipped, Gathering}
 use Rattle.genie_model.specs.Tables.{change, entry}
-use Rattle.genie_model.specs.Regions.{is_here, put}
+use Rattle.genie_model.specs.Regions.{put}
 use Rattle.genie_model.specs.Pending.{is_early, is_numbered, pending, first_posted, arrived}
 use Rattle.genie_model.specs.Space.{Outcome}
 use Rattle.genie_model.specs.Sending.{change_device}
@@ -33,13 +33,9 @@ abbrev pub no_bytes : List ℕ → Bool
 no_bytes [] = true
 no_bytes (b ∷ bytes) = false
 
-abbrev pub no_datagram : Option Datagram → Bool
-no_datagram None = true
-no_datagram (Some g) = false
-
 -- no byte of a record has been moved
 abbrev pub is_between_records : Device → Bool
-is_between_records v = no_bytes v.header && no_datagram v.present
+is_between_records v = no_bytes v.header && is_none v.present
 
 -- as many datagrams wait as a device that isn't early has room for
 abbrev pub is_busy : State → ℕ → Device → Bool
@@ -176,7 +172,7 @@ stays_in_payload rest left k = nat_le k (length rest) && nat_lt k left
 
 -- the record that a whole header begins is received, and not dropped
 abbrev pub is_received : State → ℕ → Device → List ℕ → Bool
-is_received s d v header = is_valid_header (most v.kind s.config.page) header && (not (is_early v.kind) || is_here (first_posted s d (port_in header) (flow_in header)))
+is_received s d v header = is_valid_header (most v.kind s.config.page) header && (not (is_early v.kind) || is_some (first_posted s d (port_in header) (flow_in header)))
 
 -- k bytes of which the first h belong to the header end inside the record
 abbrev pub stays_behind_header : State → ℕ → ℕ → Device → ℕ → Bool

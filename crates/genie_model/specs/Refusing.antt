@@ -1,5 +1,5 @@
 -- Which events are refused: for each event the causes in order, of which the first one that holds is the answer.
-use Rattle.std.specs.Prelude.{ℕ, ◌+◌, ◌-◌, Bool, true, false, not, ◌&&◌, ◌||◌, nat_lt, nat_le, List, [], ◌∷◌, ◌++◌, length, find, sum_by, Option, None, Some, if◌then◌else◌}
+use Rattle.std.specs.Prelude.{ℕ, ◌+◌, ◌-◌, Bool, true, false, not, ◌&&◌, ◌||◌, nat_lt, nat_le, List, [], ◌∷◌, ◌++◌, length, find, sum_by, Option, None, Some, if◌then◌else◌, is_some}
 use Rattle.std.specs.List.{list_any}
 use Rattle.std.specs.Option.{option_map}
 use Rattle.genie_base.specs.Configs.{DeviceConfig, most, pool_of}
@@ -19,7 +19,7 @@ use Rattle.genie_base.specs.declared.semantics.Class.TheVariants.{Copy, Share, M
 use Rattle.genie_base.specs.declared.semantics.Direction.TheVariants.{Outward, Inward}
 use Rattle.genie_model.specs.State.{State, Region, Transfer}
 use Rattle.genie_model.specs.Tables.{entry}
-use Rattle.genie_model.specs.Regions.{extent_of, regions_at, is_here, is_alive, reach_of, write_reach_of, place_of, committed}
+use Rattle.genie_model.specs.Regions.{extent_of, regions_at, is_alive, reach_of, write_reach_of, place_of, committed}
 use Rattle.genie_model.specs.Pending.{wired, is_ready, is_posted, is_inward, names_weakly, pending}
 use Rattle.genie_model.specs.Space.{region_from}
 use Rattle.genie_model.specs.Inputs.{pages_for, reusable, address_or_zero}
@@ -81,7 +81,7 @@ abbrev pub must_make : State → ℕ → Class → ℕ → Bool
 must_make s p Copy n = false
 must_make s p Share n = false
 must_make s p Move n = true
-must_make s p WeakMove n = not (is_here (reusable s p (pages_for s n)))
+must_make s p WeakMove n = not (is_some (reusable s p (pages_for s n)))
 
 -- how many frames the pending transfers may need at most
 abbrev pub frames_to_wire : State → ℕ
@@ -97,13 +97,13 @@ call_causes s frames = (nat_le 64 (length s.transfers), cause.Transfers) ∷ (na
 
 abbrev pub new_region_causes : State → ℕ → ℕ → List (Bool × Refusal)
 new_region_causes s p pages = (nat_le 32 (length (regions_at s p)), cause.Regions)
-    ∷ (not (is_here (place_of s p pages)), cause.Space)
+    ∷ (not (is_some (place_of s p pages)), cause.Space)
     ∷ (over_backing s pages, cause.Backing)
     ∷ []
 
 -- a buffer of the application's
 abbrev pub app_causes : State → ℕ → ℕ → ℕ → ℕ → List (Bool × Refusal)
-app_causes s p most a n = (not (nat_le n most && is_here (reach_of s p a n)), cause.Range) ∷ (not (is_here (write_reach_of s p a n)), cause.Denied) ∷ []
+app_causes s p most a n = (not (nat_le n most && is_some (reach_of s p a n)), cause.Range) ∷ (not (is_some (write_reach_of s p a n)), cause.Denied) ∷ []
 
 -- a buffer of the system's
 abbrev pub sys_causes : State → ℕ → Class → ℕ → ℕ → List (Bool × Refusal)
@@ -133,22 +133,22 @@ causes s (Map p g n) = (not (is_alive s p), cause.Proc)
     ∷ (over_backing s n, cause.Backing)
     ∷ []
 causes s (Alloc p n) = (not (is_alive s p), cause.Proc) ∷ (not (is_within 1 64 n), cause.Range) ∷ new_region_causes s p n
-causes s (Unmap p g) = (not (is_alive s p), cause.Proc) ∷ (not (is_here (region_from s p g)), cause.Region) ∷ []
+causes s (Unmap p g) = (not (is_alive s p), cause.Proc) ∷ (not (is_some (region_from s p g)), cause.Region) ∷ []
 causes s (Protect p g writable) = (not (is_alive s p), cause.Proc)
-    ∷ (not (is_here (region_from s p g)), cause.Region)
+    ∷ (not (is_some (region_from s p g)), cause.Region)
     ∷ (not writable && must_stay_writable s (region_from s p g), cause.State)
     ∷ []
 causes s (Read p a n) = (not (is_alive s p), cause.Proc)
-    ∷ (not (is_within 1 s.config.page n && is_here (reach_of s p a n)), cause.Range)
+    ∷ (not (is_within 1 s.config.page n && is_some (reach_of s p a n)), cause.Range)
     ∷ []
 causes s (Write p a bytes) = (not (is_alive s p), cause.Proc)
-    ∷ (not (is_within 1 s.config.page (length bytes) && is_here (reach_of s p a (length bytes))), cause.Range)
-    ∷ (not (is_here (write_reach_of s p a (length bytes))), cause.Denied)
+    ∷ (not (is_within 1 s.config.page (length bytes) && is_some (reach_of s p a (length bytes))), cause.Range)
+    ∷ (not (is_some (write_reach_of s p a (length bytes))), cause.Denied)
     ∷ []
 causes s (Output p sem d port flow a n) = (not (is_alive s p), cause.Proc)
     ∷ (not (has_output (entry s.config.devices d)), cause.Dev)
-    ∷ (not (nat_le n (most_of s.config.page (entry s.config.devices d)) && is_here (reach_of s p a n)), cause.Range)
-    ∷ (is_system (class_of sem) && not (is_strong (class_of sem)) && not (is_here (write_reach_of s p a n)), cause.Denied)
+    ∷ (not (nat_le n (most_of s.config.page (entry s.config.devices d)) && is_some (reach_of s p a n)), cause.Range)
+    ∷ (is_system (class_of sem) && not (is_strong (class_of sem)) && not (is_some (write_reach_of s p a n)), cause.Denied)
     ∷ (is_system (class_of sem) && not (may_move (reach_of s p a n)), cause.State)
     ∷ call_causes s (cost (class_of sem) Outward (span s.config.page a n))
 causes s (Input p sem d port flow addr n) = target_causes s p (class_of sem) d (address_or_zero addr) n

@@ -1,5 +1,5 @@
 -- The regions of the processes, what is left of those that were removed, and the bytes of both.
-use Rattle.std.specs.Prelude.{ℕ, zero, suc, ◌+◌, ◌-◌, ◌*◌, Bool, true, false, ◌&&◌, ◌||◌, ◌==◌, nat_le, nat_lt, List, [], ◌∷◌, ◌++◌, map, find, sum_by, length, slice_index, Option, None, Some, if◌then◌else◌}
+use Rattle.std.specs.Prelude.{ℕ, zero, suc, ◌+◌, ◌-◌, ◌*◌, Bool, ◌&&◌, ◌||◌, ◌==◌, nat_le, nat_lt, List, [], ◌∷◌, ◌++◌, map, find, sum_by, length, slice_index, Option, None, Some, if◌then◌else◌, is_some}
 use Rattle.std.specs.List.{list_any}
 use Rattle.std.specs.Option.{option_flatten}
 use Rattle.genie_base.specs.Bytes.{overlaid, part}
@@ -22,12 +22,8 @@ abbrev pub queue_of : Option Process → List ℕ
 queue_of None = []
 queue_of (Some p) = p.queue
 
-abbrev pub is_here : {X : Type 0} → Option X → Bool
-is_here None = false
-is_here (Some x) = true
-
 abbrev pub is_alive : State → ℕ → Bool
-is_alive s p = is_here (entry s.processes p)
+is_alive s p = is_some (entry s.processes p)
 
 -- the region of process p that the n bytes from address a on reach, or none
 abbrev pub reach_of : State → ℕ → ℕ → ℕ → Option Region
