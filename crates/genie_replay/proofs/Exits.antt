@@ -21,13 +21,14 @@ use Rattle.genie_replay.specs.Serving.{Served, TakesLine, Untouched, plain_step}
 use Rattle.genie_replay.specs.Outcome.{texts, events_of}
 use Rattle.genie_replay.specs.Statuses.{status_of}
 use Rattle.genie_replay.proofs.Remaining.{NextIs, NoneLeft, SomeLeft}
-use Rattle.genie_replay.proofs.Stepping.{SoFar, events_more, follows_more, later_more, later_only, later_same, only_more, texts_more}
+use Rattle.genie_replay.proofs.Stepping.{SoFar, events_more, follows_more, later_more, later_only, later_same, only_more, plain_more, texts_more}
 use Rattle.genie_replay.proofs.Writing.{appends_more}
 
 -- all events were stepped
 played : (start machine : Option State) (old u : HostView) (at : ℕ) (Left : List Numbered → Type 0) (events : List Numbered) → (so : SoFar start machine old u at Left) → events ≡ so.done → Played so.first events machine old u
 played start machine old u at Left events so is = rw is (record {
   replies = so.replies;
+  plain = so.plain;
   last = so.last;
   follows = so.follows;
   machine_is = so.machine_is;
@@ -92,6 +93,7 @@ at_unread text step line before start machine old u w at Left so only later l =
       left = left;
       split = split;
       replies = so.replies;
+      plain = so.plain;
       last = so.last;
       follows = so.follows;
       machine_is = rw so.machine_is refl;
@@ -109,6 +111,7 @@ at_host text step line before start machine after old u w at Left e so t next =
       left = left;
       split = split;
       replies = so.replies ++ r ∷ [];
+      plain = plain_more so.replies so.last e so.plain;
       last = (plain_step so.last e).0;
       follows = rw (events_more so.done (at + 1, e)) (follows_more so.first (events_of so.done) so.replies so.last e so.follows);
       machine_is = rw t.machine_is refl;
@@ -129,6 +132,7 @@ at_memory text step line before start machine after old u w at Left so t l =
       left = left;
       split = split;
       replies = so.replies;
+      plain = so.plain;
       last = so.last;
       follows = so.follows;
       machine_is = tt;

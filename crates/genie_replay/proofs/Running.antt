@@ -17,7 +17,7 @@ use Rattle.genie_replay.specs.Outcome.{okay, texts}
 use Rattle.genie_replay.specs.Plays.{Leaves, OnlyRun, Played, PlayedInPart, Plays, PlaysFrom}
 use Rattle.genie_replay.specs.Write.{WritesAll}
 use Rattle.genie_replay.proofs.Filing.{front_none, only_faults, outputs_all, outputs_map}
-use Rattle.genie_replay.proofs.Stepping.{later_more, later_same}
+use Rattle.genie_replay.proofs.Stepping.{later_more, later_same, plain_none}
 use Rattle.genie_replay.proofs.Writing.{appends_more}
 
 -- `ok` was written, and then the events were run
@@ -54,6 +54,7 @@ all_runs start ds events s old mid after new b p sent replies tried =
     let last : s ≡ p.last = cc_some s p.last p.machine_is in
     record {
       replies = p.replies;
+      plain = p.plain;
       last = p.last;
       follows = p.follows;
       written = rw replies (appends_more (old.handle 0).bytes (mid.handle 0).bytes (after.handle 0).bytes okay (texts p.replies) b.okay_written p.written);
@@ -70,6 +71,7 @@ part_runs start ds events s old mid after new b p sent replies tried =
       left = p.left;
       split = p.split;
       replies = p.replies;
+      plain = p.plain;
       last = p.last;
       follows = p.follows;
       written = rw replies (okay ++ w.0, w.1, ap (λ l. okay ++ l) w.2 ∙ sym (append_assoc okay w.0 w.1), appends_more (old.handle 0).bytes (mid.handle 0).bytes (after.handle 0).bytes okay w.0 b.okay_written w.3);
@@ -84,6 +86,7 @@ as_part start events left machine old u p = record {
   left = left;
   split = refl;
   replies = p.replies;
+  plain = p.plain;
   last = p.last;
   follows = p.follows;
   machine_is = rw p.machine_is refl;
@@ -126,6 +129,7 @@ no_memory start ds before lines machine old mid after b q =
       left = q.left;
       split = q.split;
       replies = q.replies;
+      plain = q.plain;
       last = q.last;
       follows = q.follows;
       written = (okay ++ w.0, w.1, ap (λ l. okay ++ l) w.2 ∙ sym (append_assoc okay w.0 w.1), appends_more (old.handle 0).bytes (mid.handle 0).bytes (after.handle 0).bytes okay w.0 b.okay_written w.3);
@@ -162,6 +166,7 @@ okay_runs start ds before lines old mid e w = record {
   left = events_from before lines;
   split = refl;
   replies = [];
+  plain = plain_none;
   last = start;
   follows = refl;
   written = w.front;

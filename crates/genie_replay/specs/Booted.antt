@@ -3,6 +3,7 @@ use Rattle.std.specs.Prelude.{◌≡◌, ◌⊎◌, ℕ, List, [], ◌++◌, Opt
 use Rattle.std.specs.Io.KnownBytes.{Appends}
 use Rattle.genie_base.specs.declared.reply.Reply.{Reply}
 use Rattle.genie_host.specs.Host.{HostView}
+use Rattle.genie_model.specs.Laws.{ShowNoFault}
 use Rattle.genie_model.specs.State.{State, boot}
 use Rattle.genie_model.specs.Step.{Follows}
 use Rattle.genie_script.specs.Judge.{Numbered, Part, events_from, ending_from}
@@ -20,6 +21,7 @@ use Rattle.genie_replay.specs.Write.{AppendsFront}
 -- all of these events were stepped behind `ok`, and what the devices sent was written
 pub record RunsAll (start : State) (devices : List DeviceLine) (events : List Numbered) (old new : HostView) : Type 0 where
   pub replies : List Reply
+  pub plain : ShowNoFault replies
   pub last : State
   pub follows : Follows start (events_of events) replies last
   pub written : Appends (old.handle 0).bytes (new.handle 0).bytes (okay ++ texts replies)
@@ -32,6 +34,7 @@ pub record RunsInPart (start : State) (devices : List DeviceLine) (events : List
   pub left : List Numbered
   pub split : events ≡ done ++ left
   pub replies : List Reply
+  pub plain : ShowNoFault replies
   pub last : State
   pub follows : Follows start (events_of done) replies last
   pub written : AppendsFront (old.handle 0).bytes (new.handle 0).bytes (okay ++ texts replies)

@@ -9,6 +9,7 @@ use Rattle.genie_base.specs.declared.semantics.Direction.{Direction}
 use Rattle.genie_base.specs.declared.semantics.Direction.TheVariants.{Inward}
 use Rattle.genie_host.specs.Host.{HostView, empty_told}
 use Rattle.genie_model.specs.Flat.{sent_of}
+use Rattle.genie_model.specs.Laws.{ShowNoFault}
 use Rattle.genie_model.specs.State.{State}
 use Rattle.genie_model.specs.Step.{Follows}
 use Rattle.genie_script.specs.Judge.{Boot, Refused, Booted, Numbered, boot_part, events_from, ending_from}
@@ -59,6 +60,7 @@ pub record Ran (script : List ℕ) (c : Config) (devices : List DeviceLine) (eve
   pub start : State
   pub begins : IsBoot old.names c devices start
   pub replies : List Reply
+  pub plain : ShowNoFault replies
   pub last : State
   pub follows : Follows start (events_of events) replies last
   pub written : Appends (old.handle 0).bytes (new.handle 0).bytes (okay ++ texts replies)
@@ -73,6 +75,7 @@ pub record RanInPart (script : List ℕ) (c : Config) (devices : List DeviceLine
   pub start : State
   pub begins : IsBoot old.names c devices start
   pub replies : List Reply
+  pub plain : ShowNoFault replies
   pub last : State
   pub follows : Follows start (events_of done) replies last
   pub written : AppendsFront (old.handle 0).bytes (new.handle 0).bytes (okay ++ texts replies)

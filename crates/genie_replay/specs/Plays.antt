@@ -3,6 +3,7 @@ use Rattle.std.specs.Prelude.{◌≡◌, ◌≢◌, ◌≤◌, ℕ, IsSome, IfSo
 use Rattle.std.specs.Io.KnownBytes.{Appends}
 use Rattle.genie_base.specs.declared.reply.Reply.{Reply}
 use Rattle.genie_host.specs.Host.{HostView}
+use Rattle.genie_model.specs.Laws.{ShowNoFault}
 use Rattle.genie_model.specs.State.{State}
 use Rattle.genie_model.specs.Step.{Follows}
 use Rattle.genie_script.specs.Judge.{Numbered, events_from, ending_from}
@@ -36,6 +37,7 @@ pub record Leaves (status : Status) (old new : HostView) : Type 0 where
 -- all of these events were stepped, and their replies were written
 pub record Played (start : State) (events : List Numbered) (machine : Option State) (old new : HostView) : Type 0 where
   pub replies : List Reply
+  pub plain : ShowNoFault replies
   pub last : State
   pub follows : Follows start (events_of events) replies last
   pub machine_is : machine ≡ Some last
@@ -47,6 +49,7 @@ pub record PlayedInPart (start : State) (events : List Numbered) (machine : Opti
   pub left : List Numbered
   pub split : events ≡ done ++ left
   pub replies : List Reply
+  pub plain : ShowNoFault replies
   pub last : State
   pub follows : Follows start (events_of done) replies last
   pub machine_is : IfSome machine (λ s. s ≡ last)

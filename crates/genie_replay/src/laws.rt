@@ -6,7 +6,7 @@ use genie_model::laws;
 use genie_script::laws::scripts_keep_limits;
 
 /// Two scripts that differ in nothing but the thresholds, or in whether their calls are emulated, give the same replies
-/// and the same bytes of each device, where the inputs are the same and no fault comes.
+/// and the same bytes of each device, where the inputs are told and are the same.
 pub fn scripts_run_alike()
     ensures { ScriptsRunAlike }
 {
