@@ -21,7 +21,7 @@ use Rattle.genie_replay.specs.declared.status.Status.TheVariants.{HostFault, NoM
 use Rattle.genie_replay.specs.Files.{HandleRose, HoldsOfOutputs, IsUnwritten, TriesFront, openings_of}
 use Rattle.genie_replay.specs.Inputs.{IsBoot}
 use Rattle.genie_replay.specs.Statuses.{status_of}
-use Rattle.genie_replay.specs.Write.{AppendsFront}
+use Rattle.genie_replay.specs.Write.{AppendsFront, AppendsUpToLast}
 
 -- a script's name has 1 to 4,096 bytes, and doesn't begin with `-`
 abbrev pub is_script_name : List ℕ → Bool
@@ -54,8 +54,8 @@ HasAll s old new number handle = Appends (empty_told (old.handle 0).bytes) (new.
 abbrev pub HasFront : State → HostView → HostView → ℕ → ℕ → Type 0
 HasFront s old new number handle = AppendsFront (empty_told (old.handle 0).bytes) (new.handle handle).bytes (sent_of s number)
 
--- All of these events were stepped from the boot on: the replies to them were written after the one to the boot part, and each output has
--- what its device sent.
+-- All of these events were stepped from the boot on: the replies to them were written after the one to the boot part, and
+-- each output has what its device sent.
 pub record Ran (script : List ℕ) (c : Config) (devices : List DeviceLine) (events : List Numbered) (old new : HostView) : Type 0 where
   pub start : State
   pub begins : IsBoot old.names c devices start
@@ -67,7 +67,8 @@ pub record Ran (script : List ℕ) (c : Config) (devices : List DeviceLine) (eve
   pub sent : HoldsOfOutputs (HasAll last old new) 1 devices
   pub tried : new.tried ≡ old.tried ++ openings script devices
 
--- The first ones of them were stepped, a front of the replies was written, and fronts of what was sent.
+-- The first ones of them were stepped: the reply to the boot part and the replies to them were written, but for the end of
+-- the last one at most, and each output has a front of what its device sent.
 pub record RanInPart (script : List ℕ) (c : Config) (devices : List DeviceLine) (events : List Numbered) (old new : HostView) : Type 0 where
   pub done : List Numbered
   pub left : List Numbered
@@ -78,7 +79,7 @@ pub record RanInPart (script : List ℕ) (c : Config) (devices : List DeviceLine
   pub plain : ShowNoFault replies
   pub last : State
   pub follows : Follows start (events_of done) replies last
-  pub written : AppendsFront (old.handle 0).bytes (new.handle 0).bytes (okay ++ texts replies)
+  pub written : AppendsUpToLast (old.handle 0).bytes (new.handle 0).bytes (okay ∷ map reply_text replies)
   pub sent : HoldsOfOutputs (HasFront last old new) 1 devices
   pub tried : new.tried ≡ old.tried ++ openings script devices
 
