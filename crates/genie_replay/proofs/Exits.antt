@@ -1,5 +1,5 @@
 -- How the loop over the lines is left.
-use Rattle.std.proofs.Common.{◌≡◌, ◌≢◌, ℕ, ◌+◌, ◌≤◌, List, [], ◌∷◌, ◌++◌, refl, ap, sym, ◌∙◌, append_assoc, append-nil, arith}
+use Rattle.std.proofs.Common.{◌≡◌, ◌≢◌, ℕ, ◌+◌, ◌≤◌, List, [], ◌∷◌, ◌++◌, refl, ap, sym, ◌∙◌, append_assoc, arith}
 use Rattle.std.specs.Prelude.{◌⊎◌, Option, Some, None, Err, IsSome}
 use Rattle.genie_base.specs.Causes.{Rose}
 use Rattle.genie_base.specs.declared.event.Event.{Event}
@@ -7,6 +7,7 @@ use Rattle.genie_base.specs.declared.reply.Reply.{Reply}
 use Rattle.genie_host.specs.Host.{HostView, OnlyHandle}
 use Rattle.genie_model.specs.State.{State}
 use Rattle.genie_script.specs.Judge.{Numbered}
+use Rattle.genie_script.specs.Spelling.{reply_text}
 use Rattle.genie_script.specs.declared.judge.Ending.{Ending}
 use Rattle.genie_script.specs.declared.judge.Ending.TheVariants as ending
 use Rattle.genie_script.specs.declared.judge.Judged.{Judged}
@@ -21,13 +22,14 @@ use Rattle.genie_replay.specs.Serving.{Served, TakesLine, Untouched, plain_step}
 use Rattle.genie_replay.specs.Outcome.{texts, events_of}
 use Rattle.genie_replay.specs.Statuses.{status_of}
 use Rattle.genie_replay.proofs.Remaining.{NextIs, NoneLeft, SomeLeft}
-use Rattle.genie_replay.proofs.Stepping.{SoFar, events_more, follows_more, later_more, later_only, later_same, only_more, texts_more}
-use Rattle.genie_replay.proofs.Writing.{appends_more}
+use Rattle.genie_replay.proofs.Stepping.{SoFar, events_more, follows_more, later_more, later_only, later_same, only_more, plain_more}
+use Rattle.genie_replay.proofs.Writing.{appends_more, ends_all, ends_more}
 
 -- all events were stepped
 played : (start machine : Option State) (old u : HostView) (at : ℕ) (Left : List Numbered → Type 0) (events : List Numbered) → (so : SoFar start machine old u at Left) → events ≡ so.done → Played so.first events machine old u
 played start machine old u at Left events so is = rw is (record {
   replies = so.replies;
+  plain = so.plain;
   last = so.last;
   follows = so.follows;
   machine_is = so.machine_is;
@@ -92,10 +94,11 @@ at_unread text step line before start machine old u w at Left so only later l =
       left = left;
       split = split;
       replies = so.replies;
+      plain = so.plain;
       last = so.last;
       follows = so.follows;
       machine_is = rw so.machine_is refl;
-      written = (texts so.replies, [], sym (append-nil (texts so.replies)), rw replies so.written);
+      written = (texts so.replies, ends_all reply_text so.replies, rw replies so.written);
     }) l)
 
 -- the reply to an event was written in part
@@ -109,13 +112,13 @@ at_host text step line before start machine after old u w at Left e so t next =
       left = left;
       split = split;
       replies = so.replies ++ r ∷ [];
+      plain = plain_more so.replies so.last e so.plain;
       last = (plain_step so.last e).0;
       follows = rw (events_more so.done (at + 1, e)) (follows_more so.first (events_of so.done) so.replies so.last e so.follows);
       machine_is = rw t.machine_is refl;
       written = (
         texts so.replies ++ front.0,
-        front.1,
-        texts_more so.replies r ∙ ap (λ l. texts so.replies ++ l) front.2 ∙ sym (append_assoc (texts so.replies) front.0 front.1),
+        ends_more reply_text so.replies r front.0 front.1 front.2,
         appends_more (old.handle 0).bytes (u.handle 0).bytes (w.handle 0).bytes (texts so.replies) front.0 so.written front.3,
       );
     }) (next_some text step line before so.done (at + 1, e) next))
@@ -129,10 +132,11 @@ at_memory text step line before start machine after old u w at Left so t l =
       left = left;
       split = split;
       replies = so.replies;
+      plain = so.plain;
       last = so.last;
       follows = so.follows;
       machine_is = tt;
-      written = (texts so.replies, [], sym (append-nil (texts so.replies)), so.written);
+      written = (texts so.replies, ends_all reply_text so.replies, so.written);
     }) l)
 
 -- nothing failed

@@ -1,5 +1,5 @@
 -- From `ok` and the events to the devices' outputs.
-use Rattle.std.proofs.Common.{◌≡◌, ◌≢◌, ℕ, ◌<◌, ◌≤◌, List, [], ◌++◌, refl, ap, sym, ◌∙◌, append_assoc, append-nil, arith, subst}
+use Rattle.std.proofs.Common.{◌≡◌, ◌≢◌, ℕ, ◌<◌, ◌≤◌, List, [], ◌++◌, map, refl, ap, sym, ◌∙◌, append-nil, arith, subst}
 use Rattle.std.specs.Prelude.{Option, Some, None, Ok, Err, IfSome, IsSome}
 use Rattle.std.specs.Io.KnownBytes.{Appends}
 use Rattle.genie_base.specs.Causes.{Rose}
@@ -7,6 +7,7 @@ use Rattle.genie_host.specs.Host.{HostView, HandleState}
 use Rattle.genie_model.specs.Flat.{sent_of}
 use Rattle.genie_model.specs.State.{State}
 use Rattle.genie_script.specs.Judge.{Numbered, events_from}
+use Rattle.genie_script.specs.Spelling.{reply_text}
 use Rattle.genie_script.specs.declared.line.DeviceLine.{DeviceLine}
 use Rattle.genie_replay.specs.declared.script.LineStep.{LineStep}
 use Rattle.genie_replay.specs.declared.status.Status.{Status}
@@ -17,8 +18,8 @@ use Rattle.genie_replay.specs.Outcome.{okay, texts}
 use Rattle.genie_replay.specs.Plays.{Leaves, OnlyRun, Played, PlayedInPart, Plays, PlaysFrom}
 use Rattle.genie_replay.specs.Write.{WritesAll}
 use Rattle.genie_replay.proofs.Filing.{front_none, only_faults, outputs_all, outputs_map}
-use Rattle.genie_replay.proofs.Stepping.{later_more, later_same}
-use Rattle.genie_replay.proofs.Writing.{appends_more}
+use Rattle.genie_replay.proofs.Stepping.{later_more, later_same, plain_none}
+use Rattle.genie_replay.proofs.Writing.{appends_more, ends_all, up_to_behind}
 
 -- `ok` was written, and then the events were run
 pub record Begun (old mid after : HostView) : Type 0 where
@@ -54,6 +55,7 @@ all_runs start ds events s old mid after new b p sent replies tried =
     let last : s ≡ p.last = cc_some s p.last p.machine_is in
     record {
       replies = p.replies;
+      plain = p.plain;
       last = p.last;
       follows = p.follows;
       written = rw replies (appends_more (old.handle 0).bytes (mid.handle 0).bytes (after.handle 0).bytes okay (texts p.replies) b.okay_written p.written);
@@ -64,15 +66,15 @@ all_runs start ds events s old mid after new b p sent replies tried =
 part_runs : (start : State) (ds : List DeviceLine) (events : List Numbered) (s : State) (old mid after new : HostView) → Begun old mid after → PlayedInPart start events (Some s) mid after → HoldsOfOutputs (HasSentFront s after new) 1 ds → new.handle 0 ≡ after.handle 0 → new.tried ≡ after.tried → RunsInPart start ds events old new
 part_runs start ds events s old mid after new b p sent replies tried =
     let last : s ≡ p.last = p.machine_is in
-    let w = p.written in
     record {
       done = p.done;
       left = p.left;
       split = p.split;
       replies = p.replies;
+      plain = p.plain;
       last = p.last;
       follows = p.follows;
-      written = rw replies (okay ++ w.0, w.1, ap (λ l. okay ++ l) w.2 ∙ sym (append_assoc okay w.0 w.1), appends_more (old.handle 0).bytes (mid.handle 0).bytes (after.handle 0).bytes okay w.0 b.okay_written w.3);
+      written = rw replies (up_to_behind (old.handle 0).bytes (mid.handle 0).bytes (after.handle 0).bytes okay (map reply_text p.replies) b.okay_written p.written);
       sent = rw (← last) (fronts_sent s old mid after new ds b sent);
       tried = tried ∙ b.tried;
     }
@@ -84,10 +86,11 @@ as_part start events left machine old u p = record {
   left = left;
   split = refl;
   replies = p.replies;
+  plain = p.plain;
   last = p.last;
   follows = p.follows;
   machine_is = rw p.machine_is refl;
-  written = (texts p.replies, [], sym (append-nil (texts p.replies)), p.written);
+  written = (texts p.replies, ends_all reply_text p.replies, p.written);
 }
 
 -- the outputs were written whole
@@ -119,19 +122,18 @@ some_filed st start ds before lines s old mid after new e ne b q f = part_runs s
 
 -- memory ran out among the events
 no_memory : (start : State) (ds : List DeviceLine) (before : ℕ) (lines : List (List ℕ)) (machine : Option State) (old mid after : HostView) → Begun old mid after → PlayedInPart start (events_from before lines) machine mid after → Runs start ds before lines old after status.NoMemory
-no_memory start ds before lines machine old mid after b q =
-    let w = q.written in
-    record {
-      done = q.done;
-      left = q.left;
-      split = q.split;
-      replies = q.replies;
-      last = q.last;
-      follows = q.follows;
-      written = (okay ++ w.0, w.1, ap (λ l. okay ++ l) w.2 ∙ sym (append_assoc okay w.0 w.1), appends_more (old.handle 0).bytes (mid.handle 0).bytes (after.handle 0).bytes okay w.0 b.okay_written w.3);
-      sent = outputs_all (HasSentFront q.last old after) 1 ds (λ n h later. let same : after.handle h ≡ old.handle h = b.outputs h later in rw same (front_none (old.handle h).bytes (sent_of q.last n)));
-      tried = b.tried;
-    }
+no_memory start ds before lines machine old mid after b q = record {
+  done = q.done;
+  left = q.left;
+  split = q.split;
+  replies = q.replies;
+  plain = q.plain;
+  last = q.last;
+  follows = q.follows;
+  written = up_to_behind (old.handle 0).bytes (mid.handle 0).bytes (after.handle 0).bytes okay (map reply_text q.replies) b.okay_written q.written;
+  sent = outputs_all (HasSentFront q.last old after) 1 ds (λ n h later. let same : after.handle h ≡ old.handle h = b.outputs h later in rw same (front_none (old.handle h).bytes (sent_of q.last n)));
+  tried = b.tried;
+}
 
 -- The same where the host may not tell the script.
 
@@ -162,9 +164,10 @@ okay_runs start ds before lines old mid e w = record {
   left = events_from before lines;
   split = refl;
   replies = [];
+  plain = plain_none;
   last = start;
   follows = refl;
-  written = w.front;
+  written = (w.front.0, (w.front.1, w.front.2), w.front.3);
   sent = outputs_all (HasSentFront start old mid) 1 ds (λ n h later. let same : mid.handle h ≡ old.handle h = w.only.others h (λ x. omega (arith, x, later)) in rw same (front_none (old.handle h).bytes (sent_of start n)));
   tried = w.only.tried;
 }

@@ -2,13 +2,14 @@
 use Rattle.std.proofs.Common.{◌≡◌, ◌≢◌, ℕ, ◌+◌, ◌≤◌, true, false, List, [], ◌∷◌, ◌++◌, refl, ap, sym, ◌∙◌, append_assoc, append-nil, subst, arith, inl, inr}
 use Rattle.std.specs.Prelude.{◌⊎◌, Option, Some, None, Ok, IfSome, IsSome, ◌==◌}
 use Rattle.std.proofs.lemmas.Bool.Decides.{nat_tests}
+use Rattle.std.proofs.lemmas.List.Elements.{All-nil, All-push}
 use Rattle.std.specs.Io.KnownBytes.{Appends}
 use Rattle.genie_base.specs.Events.{mark_of}
 use Rattle.genie_base.specs.declared.event.Event.{Event}
 use Rattle.genie_base.specs.declared.reply.Mark.TheVariants.{NoFault}
 use Rattle.genie_base.specs.declared.reply.Reply.{Reply}
 use Rattle.genie_host.specs.Host.{HostView, HandleState, OnlyHandle}
-use Rattle.genie_model.specs.Laws.{Grows}
+use Rattle.genie_model.specs.Laws.{Grows, ShowNoFault}
 use Rattle.genie_model.specs.State.{State}
 use Rattle.genie_model.specs.Step.{Follows, step}
 use Rattle.genie_model.proofs.Growing.{steps_grow, plain_steps_show_no_fault}
@@ -31,6 +32,15 @@ follows_more s [] [] last e f =
 follows_more s [] (r ∷ rs) last e f = absurd f
 follows_more s (d ∷ es) [] last e f = absurd f
 follows_more s (d ∷ es) (r ∷ rs) last e f = (f.0, follows_more (step s d (mark_of r)).0 es rs last e f.1)
+
+abbrev ShowsNoFault : Reply → Type 0
+ShowsNoFault r = mark_of r ≡ NoFault
+
+pub plain_none : ShowNoFault []
+plain_none = All-nil ShowsNoFault
+
+pub plain_more : (rs : List Reply) (last : State) (e : Event) → ShowNoFault rs → ShowNoFault (rs ++ (plain_step last e).1 ∷ [])
+plain_more rs last e plain = All-push ShowsNoFault rs (plain_step last e).1 plain (plain_steps_show_no_fault last e)
 
 pub events_more : (done : List Numbered) (n : Numbered) → events_of (done ++ n ∷ []) ≡ events_of done ++ n.1 ∷ []
 events_more [] n = refl
@@ -65,6 +75,7 @@ pub record SoFar (start machine : Option State) (old now : HostView) (at : ℕ) 
   pub start_is : start ≡ Some first
   pub done : List Numbered
   pub replies : List Reply
+  pub plain : ShowNoFault replies
   pub last : State
   pub follows : Follows first (events_of done) replies last
   pub machine_is : machine ≡ Some last
@@ -81,6 +92,7 @@ so_far_start s v before Left first left = record {
   start_is = refl;
   done = [];
   replies = [];
+  plain = plain_none;
   last = s;
   follows = refl;
   machine_is = refl;
@@ -106,6 +118,7 @@ so_read start machine old u w at Left Next so only count f =
       start_is = so.start_is;
       done = so.done;
       replies = so.replies;
+      plain = so.plain;
       last = so.last;
       follows = so.follows;
       machine_is = so.machine_is;
@@ -127,6 +140,7 @@ so_passed start machine after old u w at Left Next so t next =
       start_is = so.start_is;
       done = so.done;
       replies = so.replies;
+      plain = so.plain;
       last = so.last;
       follows = so.follows;
       machine_is = refl;
@@ -151,6 +165,7 @@ so_stepped start machine after old u w at Left Next e x so t next =
       start_is = so.start_is;
       done = so.done ++ (at + 1, e) ∷ [];
       replies = so.replies ++ (plain_step so.last e).1 ∷ [];
+      plain = plain_more so.replies so.last e so.plain;
       last = (plain_step so.last e).0;
       follows = rw (events_more so.done (at + 1, e)) (follows_more so.first (events_of so.done) so.replies so.last e so.follows);
       machine_is = t.machine_is;

@@ -1,11 +1,13 @@
 -- What a run does once the files are open.
-use Rattle.std.specs.Prelude.{◌≡◌, ◌⊎◌, ℕ, List, [], ◌++◌, Option, None, Some, ⊤}
+use Rattle.std.specs.Prelude.{◌≡◌, ◌⊎◌, ℕ, List, [], ◌∷◌, ◌++◌, map, Option, None, Some, ⊤}
 use Rattle.std.specs.Io.KnownBytes.{Appends}
 use Rattle.genie_base.specs.declared.reply.Reply.{Reply}
 use Rattle.genie_host.specs.Host.{HostView}
+use Rattle.genie_model.specs.Laws.{ShowNoFault}
 use Rattle.genie_model.specs.State.{State, boot}
 use Rattle.genie_model.specs.Step.{Follows}
 use Rattle.genie_script.specs.Judge.{Numbered, Part, events_from, ending_from}
+use Rattle.genie_script.specs.Spelling.{reply_text}
 use Rattle.genie_script.specs.declared.line.DeviceLine.{DeviceLine}
 use Rattle.genie_replay.specs.declared.script.LineStep.{LineStep}
 use Rattle.genie_replay.specs.declared.status.Status.{Status}
@@ -15,26 +17,29 @@ use Rattle.genie_replay.specs.Inputs.{SetsInputs}
 use Rattle.genie_replay.specs.Lines.{IsPending}
 use Rattle.genie_replay.specs.Outcome.{events_of, okay, texts}
 use Rattle.genie_replay.specs.Statuses.{status_of}
-use Rattle.genie_replay.specs.Write.{AppendsFront}
+use Rattle.genie_replay.specs.Write.{AppendsUpToLast}
 
 -- all of these events were stepped behind `ok`, and what the devices sent was written
 pub record RunsAll (start : State) (devices : List DeviceLine) (events : List Numbered) (old new : HostView) : Type 0 where
   pub replies : List Reply
+  pub plain : ShowNoFault replies
   pub last : State
   pub follows : Follows start (events_of events) replies last
   pub written : Appends (old.handle 0).bytes (new.handle 0).bytes (okay ++ texts replies)
   pub sent : HoldsOfOutputs (HasSent last old new) 1 devices
   pub tried : new.tried ≡ old.tried
 
--- the first ones of them were, and fronts were written
+-- The first ones of them were: `ok` and their replies were written, but for the end of the last one at most, and of
+-- what the devices sent a front.
 pub record RunsInPart (start : State) (devices : List DeviceLine) (events : List Numbered) (old new : HostView) : Type 0 where
   pub done : List Numbered
   pub left : List Numbered
   pub split : events ≡ done ++ left
   pub replies : List Reply
+  pub plain : ShowNoFault replies
   pub last : State
   pub follows : Follows start (events_of done) replies last
-  pub written : AppendsFront (old.handle 0).bytes (new.handle 0).bytes (okay ++ texts replies)
+  pub written : AppendsUpToLast (old.handle 0).bytes (new.handle 0).bytes (okay ∷ map reply_text replies)
   pub sent : HoldsOfOutputs (HasSentFront last old new) 1 devices
   pub tried : new.tried ≡ old.tried
 

@@ -9,6 +9,7 @@ use Rattle.genie_base.specs.declared.semantics.Direction.{Direction}
 use Rattle.genie_base.specs.declared.semantics.Direction.TheVariants.{Inward}
 use Rattle.genie_host.specs.Host.{HostView, empty_told}
 use Rattle.genie_model.specs.Flat.{sent_of}
+use Rattle.genie_model.specs.Laws.{ShowNoFault}
 use Rattle.genie_model.specs.State.{State}
 use Rattle.genie_model.specs.Step.{Follows}
 use Rattle.genie_script.specs.Judge.{Boot, Refused, Booted, Numbered, boot_part, events_from, ending_from}
@@ -20,7 +21,7 @@ use Rattle.genie_replay.specs.declared.status.Status.TheVariants.{HostFault, NoM
 use Rattle.genie_replay.specs.Files.{HandleRose, HoldsOfOutputs, IsUnwritten, TriesFront, openings_of}
 use Rattle.genie_replay.specs.Inputs.{IsBoot}
 use Rattle.genie_replay.specs.Statuses.{status_of}
-use Rattle.genie_replay.specs.Write.{AppendsFront}
+use Rattle.genie_replay.specs.Write.{AppendsFront, AppendsUpToLast}
 
 -- a script's name has 1 to 4,096 bytes, and doesn't begin with `-`
 abbrev pub is_script_name : List ℕ → Bool
@@ -53,19 +54,21 @@ HasAll s old new number handle = Appends (empty_told (old.handle 0).bytes) (new.
 abbrev pub HasFront : State → HostView → HostView → ℕ → ℕ → Type 0
 HasFront s old new number handle = AppendsFront (empty_told (old.handle 0).bytes) (new.handle handle).bytes (sent_of s number)
 
--- All of these events were stepped from the boot on: the replies to them were written after the one to the boot part, and each output has
--- what its device sent.
+-- All of these events were stepped from the boot on: the replies to them were written after the one to the boot part,
+-- and each output has what its device sent.
 pub record Ran (script : List ℕ) (c : Config) (devices : List DeviceLine) (events : List Numbered) (old new : HostView) : Type 0 where
   pub start : State
   pub begins : IsBoot old.names c devices start
   pub replies : List Reply
+  pub plain : ShowNoFault replies
   pub last : State
   pub follows : Follows start (events_of events) replies last
   pub written : Appends (old.handle 0).bytes (new.handle 0).bytes (okay ++ texts replies)
   pub sent : HoldsOfOutputs (HasAll last old new) 1 devices
   pub tried : new.tried ≡ old.tried ++ openings script devices
 
--- The first ones of them were stepped, a front of the replies was written, and fronts of what was sent.
+-- The first ones of them were stepped: the reply to the boot part and the replies to them were written, but for the end
+-- of the last one at most, and each output has a front of what its device sent.
 pub record RanInPart (script : List ℕ) (c : Config) (devices : List DeviceLine) (events : List Numbered) (old new : HostView) : Type 0 where
   pub done : List Numbered
   pub left : List Numbered
@@ -73,9 +76,10 @@ pub record RanInPart (script : List ℕ) (c : Config) (devices : List DeviceLine
   pub start : State
   pub begins : IsBoot old.names c devices start
   pub replies : List Reply
+  pub plain : ShowNoFault replies
   pub last : State
   pub follows : Follows start (events_of done) replies last
-  pub written : AppendsFront (old.handle 0).bytes (new.handle 0).bytes (okay ++ texts replies)
+  pub written : AppendsUpToLast (old.handle 0).bytes (new.handle 0).bytes (okay ∷ map reply_text replies)
   pub sent : HoldsOfOutputs (HasFront last old new) 1 devices
   pub tried : new.tried ≡ old.tried ++ openings script devices
 
@@ -88,8 +92,8 @@ pub record RanNothing (script : List ℕ) (old new : HostView) : Type 0 where
   pub written : WroteNothing old new
   pub tried : new.tried ≡ old.tried ++ (script, Inward) ∷ []
 
--- No reply was written, the first ones of the run's openings were tried, the script's at least, and nothing was written to an
--- output.
+-- No reply was written, the first ones of the run's openings were tried, the script's at least, and nothing was written
+-- to an output.
 pub record CutShort (script : List ℕ) (devices : List DeviceLine) (old new : HostView) : Type 0 where
   pub written : WroteNothing old new
   pub tried : TriesFront (openings script devices) old new

@@ -1,11 +1,13 @@
 -- What the run of the lines behind the boot part does.
-use Rattle.std.specs.Prelude.{◌≡◌, ◌≢◌, ◌≤◌, ℕ, IsSome, IfSome, List, ◌++◌, Option, None, Some, ⊤}
+use Rattle.std.specs.Prelude.{◌≡◌, ◌≢◌, ◌≤◌, ℕ, IsSome, IfSome, List, ◌++◌, map, Option, None, Some, ⊤}
 use Rattle.std.specs.Io.KnownBytes.{Appends}
 use Rattle.genie_base.specs.declared.reply.Reply.{Reply}
 use Rattle.genie_host.specs.Host.{HostView}
+use Rattle.genie_model.specs.Laws.{ShowNoFault}
 use Rattle.genie_model.specs.State.{State}
 use Rattle.genie_model.specs.Step.{Follows}
 use Rattle.genie_script.specs.Judge.{Numbered, events_from, ending_from}
+use Rattle.genie_script.specs.Spelling.{reply_text}
 use Rattle.genie_replay.specs.declared.script.LineStep.{LineStep}
 use Rattle.genie_replay.specs.declared.status.Status.{Status}
 use Rattle.genie_replay.specs.declared.status.Status.TheVariants.{HostFault, NoMemory}
@@ -13,7 +15,7 @@ use Rattle.genie_replay.specs.Files.{HandleRose, SameFaults}
 use Rattle.genie_replay.specs.Lines.{IsPending}
 use Rattle.genie_replay.specs.Outcome.{events_of, texts}
 use Rattle.genie_replay.specs.Statuses.{status_of}
-use Rattle.genie_replay.specs.Write.{AppendsFront}
+use Rattle.genie_replay.specs.Write.{AppendsUpToLast}
 
 -- nothing but the replies and the script, handles 0 and 1, changed
 pub record OnlyRun (old new : HostView) : Type 0 where
@@ -36,21 +38,23 @@ pub record Leaves (status : Status) (old new : HostView) : Type 0 where
 -- all of these events were stepped, and their replies were written
 pub record Played (start : State) (events : List Numbered) (machine : Option State) (old new : HostView) : Type 0 where
   pub replies : List Reply
+  pub plain : ShowNoFault replies
   pub last : State
   pub follows : Follows start (events_of events) replies last
   pub machine_is : machine ≡ Some last
   pub written : Appends (old.handle 0).bytes (new.handle 0).bytes (texts replies)
 
--- the first ones of them were, and a front of their replies was written
+-- the first ones of them were, and their replies were written, but for the end of the last one at most
 pub record PlayedInPart (start : State) (events : List Numbered) (machine : Option State) (old new : HostView) : Type 0 where
   pub done : List Numbered
   pub left : List Numbered
   pub split : events ≡ done ++ left
   pub replies : List Reply
+  pub plain : ShowNoFault replies
   pub last : State
   pub follows : Follows start (events_of done) replies last
   pub machine_is : IfSome machine (λ s. s ≡ last)
-  pub written : AppendsFront (old.handle 0).bytes (new.handle 0).bytes (texts replies)
+  pub written : AppendsUpToLast (old.handle 0).bytes (new.handle 0).bytes (map reply_text replies)
 
 abbrev pub Plays : ℕ → List (List ℕ) → State → Option State → HostView → HostView → Status → Type 0
 Plays before lines start machine old new HostFault = IsSome machine × PlayedInPart start (events_from before lines) machine old new

@@ -6,14 +6,14 @@ use genie_model::laws;
 use genie_script::laws::scripts_keep_limits;
 
 /// Two scripts that differ in nothing but the thresholds, or in whether their calls are emulated, give the same replies
-/// and the same bytes of each device, where the inputs are the same and no fault comes.
+/// and the same bytes of each device, where the inputs are told and are the same.
 pub fn scripts_run_alike()
     ensures { ScriptsRunAlike }
 {
     laws::runs_alike();
 }
 
-/// Every state that a run reaches is orderly, and its outputs keep integrity.
+/// Every state that a run reaches is orderly, and its outputs keep integrity up to there.
 pub fn runs_are_sound()
     ensures { RunsAreSound }
 {

@@ -134,6 +134,8 @@ pub fn run<H: Host>(alloc: Global, words: &[String], host: &mut H) -> Status
     requires { (H.view host.old).opened ≡ 0 }
     // The words are wrong exactly with `Usage`.
     ensures usage { (result ≡ Status.Usage) ↔ IsNone (script_of (map string_bytes words.now)) }
+    // With `Usage` the host is as before.
+    ensures untouched { result ≡ Status.Usage → H.view host.new ≡ H.view host.old }
     // The replies and the outputs are those of the flat machine.
     ensures outcome { IfSome (script_of (map string_bytes words.now)) (λ name.
         OutcomeOf name ((H.view host.old).names name) (H.view host.old) (H.view host.new) result) }

@@ -1,8 +1,8 @@
 use Rattle.std.proofs.Common.{◌+◌, ap}
 use Rattle.std.specs.Io.KnownBytes.{prepend_known}
 use Rattle.genie_host.specs.Host.{HandleState}
-use Rattle.genie_replay.proofs.Exits.{at_host, at_unread, stopped_host}
-use Rattle.genie_replay.proofs.Remaining.{LeftText, left_next, left_none, left_passed, left_read, left_taken, some_left_text}
+use Rattle.genie_replay.proofs.Exits.{at_host, at_memory, at_unread, stopped_host, stopped_memory}
+use Rattle.genie_replay.proofs.Remaining.{LeftText, left_next, left_none, left_passed, left_read, left_taken, some_left, some_left_text}
 use Rattle.genie_replay.proofs.Stepping.{script_kept, so_far_none, so_read, so_taken}
 use Rattle.genie_replay.proofs.play.play.Goals as goal
 
@@ -15,6 +15,12 @@ returns-in-Err-Host-clause-played g c =
     let stop = stopped_host _ so.last _ _ _ (rw (c.as_slice.ensures.bytes, c.in-Err-Host.field-0-is, so.machine_is) at c.in-Err-Host.ensures) in
     at_host _ c.args.step c.args.line.now c.args.before _ _ _ _ _ _ c.lines.at _ stop.event so stop.how
     (left_next _ _ c.args.step c.args.line.now c.lines.line c.args.before c.lines.at so.done stop.event c.lines-test.true (rw c.in-Line.is at so.left) stop.is)
+
+pub returns-in-Err-Memory-clause-played : goal.returns-in-Err-Memory-clause-played
+returns-in-Err-Memory-clause-played g c =
+    let so = c.lines.invariant in
+    let stop = stopped_memory _ so.last _ _ _ (rw (c.as_slice.ensures.bytes, c.in-Err-Memory.field-0-is, so.machine_is) at c.in-Err-Memory.ensures) in
+    at_memory _ c.args.step c.args.line.now c.args.before _ _ _ _ _ _ c.lines.at _ so stop (some_left _ _ c.args.step c.args.line.now c.lines.step c.lines.line c.args.before c.lines.at so.done so.left)
 
 pub returns-in-Err-clause-played : goal.returns-in-Err-clause-played
 returns-in-Err-clause-played g c =
