@@ -1,11 +1,12 @@
 -- What is so of each state that the run of a script reaches, and of what its devices have sent by then.
-use Rattle.std.specs.Prelude.{◌≡◌, ℕ, List, ◌++◌}
+use Rattle.std.specs.Prelude.{◌≡◌, ℕ, List, ◌++◌, Some}
 use Rattle.genie_base.specs.declared.event.Event.{Event}
 use Rattle.genie_base.specs.declared.reply.Reply.{Reply}
 use Rattle.genie_host.specs.Host.{HostView}
-use Rattle.genie_model.specs.Integrity.{SendsRecords, outputs}
+use Rattle.genie_model.specs.Integrity.{SendsRecords, KeepsByte, outputs}
 use Rattle.genie_model.specs.Orderly.{IsOrderly}
-use Rattle.genie_model.specs.State.{State}
+use Rattle.genie_model.specs.Pending.{pending}
+use Rattle.genie_model.specs.State.{State, Transfer}
 use Rattle.genie_model.specs.Step.{Follows}
 use Rattle.genie_script.specs.Judge.{Booted, Numbered, Part, boot_part, events_from}
 use Rattle.genie_script.specs.Texts.{lines_of}
@@ -17,10 +18,16 @@ pub record IsSound (start : State) (es : List Event) (rs : List Reply) (mid : St
   pub orderly : IsOrderly mid
   pub sent : (d : ℕ) → SendsRecords d (outputs d start es rs) mid
 
--- so is each state that a run reaches: the one behind each front of its events and replies
+-- From one state of a run to a later one, each byte that a weak transfer covers stays, or is stored in between.
+abbrev pub KeepsWeakBytes : State → List Event → List Reply → State → Type 0
+KeepsWeakBytes mid es rs late = (n k x : ℕ) (t u : Transfer) → pending mid n ≡ Some t → pending late n ≡ Some u → KeepsByte mid es rs late k x t u
+
+-- Each state that a run reaches is sound, the one behind each front of its events and replies; and from there on to each
+-- later one, bytes under weak transfers are kept.
 abbrev pub IsSoundRun : State → List Event → List Reply → Type 0
-IsSoundRun start events replies = (es more : List Event) (rs rest : List Reply) (mid : State)
-    → events ≡ es ++ more → replies ≡ rs ++ rest → Follows start es rs mid → IsSound start es rs mid
+IsSoundRun start events replies = (es fs left : List Event) (rs qs rest : List Reply) (mid late : State)
+    → events ≡ es ++ fs ++ left → replies ≡ rs ++ qs ++ rest → Follows start es rs mid → Follows mid fs qs late
+    → IsSound start es rs mid × KeepsWeakBytes mid fs qs late
 
 -- so is the run of these events, whether it comes to their end or is cut short
 pub record RunsSoundly (script : List ℕ) (part : Part) (events : List Numbered) (old new : HostView) : Type 0 where

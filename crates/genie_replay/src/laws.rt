@@ -13,11 +13,13 @@ pub fn scripts_run_alike()
     laws::runs_alike();
 }
 
-/// Every state that a run reaches is orderly, and its outputs keep integrity up to there.
+/// Every state that a run reaches is orderly, its outputs keep integrity up to there, and so do bytes under weak transfers
+/// from there on.
 pub fn runs_are_sound()
     ensures { RunsAreSound }
 {
     laws::runs_stay_orderly();
     laws::outputs_keep_integrity();
+    laws::weak_transfers_keep_bytes();
     scripts_keep_limits();
 }
