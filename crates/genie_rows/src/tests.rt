@@ -10,6 +10,7 @@ use genie_replay::{Status, run};
 use genie_script::{Judged, LineBuffer, judge_event, put_reply};
 use itoa::Buffer;
 use std::alloc::{AllocError, Global};
+use std::process::Abort;
 use std::test::Fail;
 
 // A host with a script, a sink for the device, and room for this many bytes of replies.
@@ -123,22 +124,22 @@ fn is_as_worked(alloc: Global, row: &Row) -> Result<bool, NoMemory> {
 }
 
 // Runs all of these.
-fn run_rows(rt: &HostRuntime, rows: &[Row]) -> Result<(), NoMemory> {
+fn run_rows(rt: &impl Abort, alloc: Global, rows: &[Row]) -> Result<(), NoMemory> {
     for row in rows {
-        assert!(rt; is_as_worked(rt.alloc(), row)?, "{}", row.about);
+        assert!(rt; is_as_worked(alloc, row)?, "{}", row.about);
     }
     Ok(())
 }
 
 #[test]
 fn worked_scripts(rt: HostRuntime) -> Result<(), Fail> {
-    run_rows(&rt, accesses())?;
-    run_rows(&rt, outputs())?;
-    run_rows(&rt, inputs())?;
-    run_rows(&rt, moves())?;
-    run_rows(&rt, devices())?;
-    run_rows(&rt, limits())?;
-    run_rows(&rt, modes())?;
+    run_rows(&rt, rt.alloc(), accesses())?;
+    run_rows(&rt, rt.alloc(), outputs())?;
+    run_rows(&rt, rt.alloc(), inputs())?;
+    run_rows(&rt, rt.alloc(), moves())?;
+    run_rows(&rt, rt.alloc(), devices())?;
+    run_rows(&rt, rt.alloc(), limits())?;
+    run_rows(&rt, rt.alloc(), modes())?;
     Ok(())
 }
 
