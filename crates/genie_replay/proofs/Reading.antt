@@ -1,11 +1,11 @@
 -- Reading a text byte by byte, and its lines.
-use Rattle.std.proofs.Common.{◌≡◌, ◌≢◌, ℕ, ◌+◌, ◌-◌, ◌<◌, ◌≤◌, List, [], ◌∷◌, ◌++◌, length, take, refl, ap, sym, ◌∙◌, append_assoc, arith}
-use Rattle.std.specs.Prelude.{Option, Some, None, Ok}
+use Rattle.std.proofs.Common.{◌≡◌, ◌≢◌, ℕ, ◌+◌, ◌-◌, ◌<◌, ◌≤◌, List, [], ◌∷◌, ◌++◌, length, take, refl, ap, sym, ◌∙◌, append_assoc, arith, inl, inr}
+use Rattle.std.specs.Prelude.{Option, Some, None, Ok, Err}
 use Rattle.std.proofs.lemmas.Grind.{common_steps}
 use Rattle.std.specs.Io.KnownBytes.{Keeps, Consumes, IsAtEnd}
 use Rattle.genie_host.specs.Host.{HostView, OnlyHandle}
 use Rattle.genie_script.specs.Texts.{lines_of}
-use Rattle.genie_replay.specs.Lines.{TakesLine}
+use Rattle.genie_replay.specs.Lines.{TakesBytes, TakesLine}
 use Rattle.genie_replay.specs.declared.script.LineStep.TheVariants.{Line, End, TooLong}
 use Rattle.genie_host.specs.OnlyHandle.{only_trans}
 
@@ -58,23 +58,23 @@ consumes_more (Some u) (Some v) None xs ys a b = absurd b
 consumes_more (Some u) (Some v) (Some w) xs ys a b = a ∙ ap (λ (l : List ℕ). xs ++ l) b ∙ sym (append_assoc xs ys w)
 
 -- the text so far is this line, and a byte
-pub line_done : (E : Type 0) (u v w : Option (List ℕ)) (line : List ℕ) (b : ℕ) → Consumes u v line → IsPlain line → length line ≤ 8300 → Consumes v w (b ∷ []) → b ≡ 10 → TakesLine {E = E} u w (Ok Line) line
-line_done E None v w line b a p short c e = tt
+pub line_done : (E : Type 0) (u v w : Option (List ℕ)) (line : List ℕ) (b : ℕ) → Consumes u v line → IsPlain line → length line ≤ 8300 → Consumes v w (b ∷ []) → b ≡ 10 → TakesLine {E = E} u w (Ok Line) line × TakesBytes {E = E} u w (Ok Line) line
+line_done E None v w line b a p short c e = (tt, tt)
 line_done E (Some u) None w line b a p short c e = absurd a
 line_done E (Some u) (Some v) None line b a p short c e = absurd c
 line_done E (Some u) (Some v) (Some w) line b a p short c e =
     let whole : u ≡ line ++ 10 ∷ w = a ∙ ap (λ (l : List ℕ). line ++ l) c ∙ ap (λ (n : ℕ). line ++ n ∷ w) e in
-    (ap lines_of whole ∙ lines_of_plain_end line w p, short)
+    ((ap lines_of whole ∙ lines_of_plain_end line w p, short), inl whole)
 
-pub line_end : (E : Type 0) (u v w : Option (List ℕ)) (line : List ℕ) → Consumes u v line → IsAtEnd v × Keeps v w → length line ≡ 0 → TakesLine {E = E} u w (Ok End) line
-line_end E None v w line a e z = tt
+pub line_end : (E : Type 0) (u v w : Option (List ℕ)) (line : List ℕ) → Consumes u v line → IsAtEnd v × Keeps v w → length line ≡ 0 → TakesLine {E = E} u w (Ok End) line × TakesBytes {E = E} u w (Ok End) line
+line_end E None v w line a e z = (tt, tt)
 line_end E (Some u) None w line a e z = absurd a
 line_end E (Some u) (Some v) None line a e z = absurd e.1
-line_end E (Some u) (Some v) (Some w) [] a e z = ap lines_of (a ∙ e.0)
+line_end E (Some u) (Some v) (Some w) [] a e z = (ap lines_of (a ∙ e.0), (a ∙ e.0, e.1 ∙ e.0))
 line_end E (Some u) (Some v) (Some w) (x ∷ xs) a e z = absurd (omega arith)
 
-pub line_last : (E : Type 0) (u v w : Option (List ℕ)) (line : List ℕ) → Consumes u v line → IsPlain line → length line ≤ 8300 → IsAtEnd v × Keeps v w → length line ≢ 0 → TakesLine {E = E} u w (Ok Line) line
-line_last E None v w line a p short e z = tt
+pub line_last : (E : Type 0) (u v w : Option (List ℕ)) (line : List ℕ) → Consumes u v line → IsPlain line → length line ≤ 8300 → IsAtEnd v × Keeps v w → length line ≢ 0 → TakesLine {E = E} u w (Ok Line) line × TakesBytes {E = E} u w (Ok Line) line
+line_last E None v w line a p short e z = (tt, tt)
 line_last E (Some u) None w line a p short e z = absurd a
 line_last E (Some u) (Some v) None line a p short e z = absurd e.1
 line_last E (Some u) (Some v) (Some w) [] a p short e z = absurd (z refl)
@@ -82,10 +82,10 @@ line_last E (Some u) (Some v) (Some w) (x ∷ xs) a p short e z =
     let none : v ≡ [] = e.0 in
     let rest : w ≡ [] = e.1 ∙ e.0 in
     let whole : u ≡ x ∷ xs = grind (arith, common_steps) in
-    (ap lines_of whole ∙ lines_of_plain x xs p ∙ ap (λ (t : List ℕ). (x ∷ xs) ∷ lines_of t) (sym rest), short)
+    ((ap lines_of whole ∙ lines_of_plain x xs p ∙ ap (λ (t : List ℕ). (x ∷ xs) ∷ lines_of t) (sym rest), short), inr (whole, rest))
 
-pub line_long : (E : Type 0) (u v w : Option (List ℕ)) (line : List ℕ) (b : ℕ) → Consumes u v line → IsPlain line → length line ≡ 8300 → Consumes v w (b ∷ []) → b ≢ 10 → TakesLine {E = E} u w (Ok TooLong) line
-line_long E None v w line b a p full c ne = tt
+pub line_long : (E : Type 0) (u v w : Option (List ℕ)) (line : List ℕ) (b : ℕ) → Consumes u v line → IsPlain line → length line ≡ 8300 → Consumes v w (b ∷ []) → b ≢ 10 → TakesLine {E = E} u w (Ok TooLong) line × TakesBytes {E = E} u w (Ok TooLong) line
+line_long E None v w line b a p full c ne = (tt, tt)
 line_long E (Some u) None w line b a p full c ne = absurd a
 line_long E (Some u) (Some v) None line b a p full c ne = absurd c
 line_long E (Some u) (Some v) (Some w) line b a p full c ne =
@@ -93,7 +93,14 @@ line_long E (Some u) (Some v) (Some w) line b a p full c ne =
     let found = long_first line b w p ne in
     let tail = found.tail in
     let size : 8300 < length ((line ++ b ∷ []) ++ tail) = grind (arith, common_steps) in
-    ((line ++ b ∷ []) ++ tail, found.more, ap lines_of whole ∙ found.is, size)
+    (((line ++ b ∷ []) ++ tail, found.more, ap lines_of whole ∙ found.is, size), (b, whole, full))
+
+-- the next byte couldn't be read
+pub line_cut : (E : Type 0) (e : E) (u v w : Option (List ℕ)) (line : List ℕ) → Consumes u v line → Keeps v w → TakesBytes {E = E} u w (Err e) line
+line_cut E e None v w line a k = tt
+line_cut E e (Some u) None w line a k = absurd a
+line_cut E e (Some u) (Some v) None line a k = absurd k
+line_cut E e (Some u) (Some v) (Some w) line a k = a ∙ ap (λ (l : List ℕ). line ++ l) (sym k)
 
 -- a line so far
 pub record SoFar (k : ℕ) (old new : HostView) (u v : Option (List ℕ)) (before ahead : ℕ) (line : List ℕ) : Type 0 where

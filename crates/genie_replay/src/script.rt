@@ -3,7 +3,7 @@ ghost use Rattle.std.specs.Prelude.{◌≡◌, ◌<◌, ◌≤◌, ◌+◌, ◌=
 ghost use Rattle.std.specs.Io.KnownBytes.{prepend_known};
 ghost use Rattle.genie_host.specs.Host.{Reading, OnlyHandle};
 ghost use Rattle.genie_base.specs.Causes.{HasCause};
-ghost use Rattle.genie_replay.specs.Lines.{ReadsAhead, TakesByte, TakesLine, StaysWithin};
+ghost use Rattle.genie_replay.specs.Lines.{ReadsAhead, TakesByte, TakesBytes, TakesLine, StaysWithin};
 
 use genie_host::{Failed, Host};
 use genie_script::{LONGEST_LINE, LineBuffer};
@@ -121,8 +121,8 @@ impl Script {
         }
     }
 
-    /// The next line, without its end. At most 8,301 bytes are read for it: of a line that is too long the rest stays
-    /// unread, and the buffer holds its first 8,300 bytes.
+    /// The next line, without its end. At most 8,301 bytes are read for it, what is read ahead among them: of a line
+    /// that is too long the rest stays unread, and the buffer holds its first 8,300 bytes.
     pub fn next_line<H: Host>(
         &mut self,
         host: &mut H,
@@ -134,8 +134,10 @@ impl Script {
         ensures cause { HasCause ((H.view host.old).handle handle).faults ((H.view host.new).handle handle).faults result }
         ensures line { TakesLine (prepend_known self.old ((H.view host.old).handle handle).bytes)
             (prepend_known self.new ((H.view host.new).handle handle).bytes) result line.new }
+        ensures taken { TakesBytes (prepend_known self.old ((H.view host.old).handle handle).bytes)
+            (prepend_known self.new ((H.view host.new).handle handle).bytes) result line.new }
         ensures short { length line.new ≤ 8300 }
-        ensures ahead { length self.old ≤ 8301 → length line.new + length self.new ≤ 8301 }
+        ensures ahead { length self.old ≤ 8301 → length line.new + length self.new ≤ 8300 }
     {
         line.clear();
         'bytes: loop {
