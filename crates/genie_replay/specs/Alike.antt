@@ -6,7 +6,7 @@ use Rattle.genie_model.specs.Flat.{sent_of}
 use Rattle.genie_model.specs.Laws.{SameButLevels}
 use Rattle.genie_script.specs.Judge.{Numbered}
 use Rattle.genie_script.specs.declared.line.DeviceLine.{DeviceLine}
-use Rattle.genie_replay.specs.Inputs.{AreTold}
+use Rattle.genie_replay.specs.Inputs.{AreTold, AreToldAlike}
 use Rattle.genie_replay.specs.Outcome.{Ran, events_of}
 
 abbrev pub SameButThresholds : Config → Config → Type 0
@@ -21,4 +21,4 @@ pub record SameRun {script other : List ℕ} {c d : Config} {devices : List Devi
 abbrev pub ScriptsRunAlike : Type 0
 ScriptsRunAlike = (script other : List ℕ) (c d : Config) (devices : List DeviceLine) (events others : List Numbered) (old new before after : HostView)
     (a : Ran script c devices events old new) (b : Ran other d devices others before after)
-    → SameButThresholds c d → SameButLevels (events_of events) (events_of others) → before.names ≡ old.names → AreTold old.names devices → SameRun a b
+    → SameButThresholds c d → SameButLevels (events_of events) (events_of others) → AreTold old.names devices → AreToldAlike old.names before.names devices → SameRun a b

@@ -86,6 +86,16 @@ abbrev pub AreTold : (List ℕ → Option (List ℕ)) → List DeviceLine → Ty
 AreTold names [] = ⊤
 AreTold names (d ∷ devices) = IsTold names d.input × AreTold names devices
 
+-- two hosts tell the same of an input
+abbrev pub IsToldAlike : (List ℕ → Option (List ℕ)) → (List ℕ → Option (List ℕ)) → Option (List ℕ) → Type 0
+IsToldAlike names others None = ⊤
+IsToldAlike names others (Some name) = others name ≡ names name
+
+-- and so of each device's input
+abbrev pub AreToldAlike : (List ℕ → Option (List ℕ)) → (List ℕ → Option (List ℕ)) → List DeviceLine → Type 0
+AreToldAlike names others [] = ⊤
+AreToldAlike names others (d ∷ devices) = IsToldAlike names others d.input × AreToldAlike names others devices
+
 -- How a run begins: always with a boot of the configuration, with some inputs. Where the host tells the bytes of each
 -- device's input, the inputs are these.
 pub record IsBoot (names : List ℕ → Option (List ℕ)) (c : Config) (devices : List DeviceLine) (start : State) : Type 0 where
