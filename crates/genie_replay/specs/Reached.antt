@@ -1,26 +1,30 @@
--- What is so of the states that the run of a script reaches, and of what its devices have sent.
-use Rattle.std.specs.Prelude.{◌≡◌, ℕ, List, All}
+-- What is so of each state that the run of a script reaches, and of what its devices have sent by then.
+use Rattle.std.specs.Prelude.{◌≡◌, ℕ, List, ◌++◌}
 use Rattle.genie_base.specs.declared.event.Event.{Event}
 use Rattle.genie_base.specs.declared.reply.Reply.{Reply}
 use Rattle.genie_host.specs.Host.{HostView}
-use Rattle.genie_model.specs.Integrity.{SendsRecords, outputs, states}
+use Rattle.genie_model.specs.Integrity.{SendsRecords, outputs}
 use Rattle.genie_model.specs.Orderly.{IsOrderly}
 use Rattle.genie_model.specs.State.{State}
+use Rattle.genie_model.specs.Step.{Follows}
 use Rattle.genie_script.specs.Judge.{Booted, Numbered, Part, boot_part, events_from}
 use Rattle.genie_script.specs.Texts.{lines_of}
 use Rattle.genie_replay.specs.Outcome.{Ran, RanInPart, events_of}
 
--- Every state from the first to the last is orderly, and what each device has sent is a front of the records of its accepted
--- outputs.
-pub record IsSoundRun (start : State) (es : List Event) (rs : List Reply) (last : State) : Type 0 where
-  pub reached : All IsOrderly (states start es rs)
-  pub orderly : IsOrderly last
-  pub sent : (d : ℕ) → SendsRecords d (outputs d start es rs) last
+-- The state is orderly, and what each device has sent is a front of the records of its outputs that were accepted so far.
+pub record IsSound (start : State) (es : List Event) (rs : List Reply) (mid : State) : Type 0 where
+  pub orderly : IsOrderly mid
+  pub sent : (d : ℕ) → SendsRecords d (outputs d start es rs) mid
+
+-- so is each state that a run reaches: the one behind each front of its events and replies
+abbrev pub IsSoundRun : State → List Event → List Reply → Type 0
+IsSoundRun start events replies = (es more : List Event) (rs rest : List Reply) (mid : State)
+    → events ≡ es ++ more → replies ≡ rs ++ rest → Follows start es rs mid → IsSound start es rs mid
 
 -- so is the run of these events, whether it comes to their end or is cut short
 pub record RunsSoundly (script : List ℕ) (part : Part) (events : List Numbered) (old new : HostView) : Type 0 where
-  pub all : (r : Ran script part.config part.devices events old new) → IsSoundRun r.start (events_of events) r.replies r.last
-  pub in_part : (r : RanInPart script part.config part.devices events old new) → IsSoundRun r.start (events_of r.done) r.replies r.last
+  pub all : (r : Ran script part.config part.devices events old new) → IsSoundRun r.start (events_of events) r.replies
+  pub in_part : (r : RanInPart script part.config part.devices events old new) → IsSoundRun r.start (events_of r.done) r.replies
 
 -- so is the run of every script that comes to its events
 abbrev pub RunsAreSound : Type 0

@@ -13,7 +13,7 @@ pub fn scripts_run_alike()
     laws::runs_alike();
 }
 
-/// Every state that a run reaches is orderly, and its outputs keep integrity.
+/// Every state that a run reaches is orderly, and its outputs keep integrity up to there.
 pub fn runs_are_sound()
     ensures { RunsAreSound }
 {
