@@ -145,9 +145,6 @@ opening_cut e a b u v x p =
       cause = p.cause;
     }
 
-opens_none : (v : HostView) → OpensAll [] v v
-opens_none v = record { tried = sym (append-nil v.tried); opened = omega arith; names = refl; faults = same_faults v }
-
 pub opens_more : (a b : List (List ℕ × Direction)) (u v w : HostView) → OpensAll a u v → OpensAll b v w → OpensAll (a ++ b) u w
 opens_more a b u v w p q = record {
   tried = q.tried ∙ ap (λ t. t ++ b) p.tried ∙ append_assoc u.tried a b;

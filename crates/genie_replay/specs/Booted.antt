@@ -29,8 +29,8 @@ pub record RunsAll (start : State) (devices : List DeviceLine) (events : List Nu
   pub sent : HoldsOfOutputs (HasSent last old new) 1 devices
   pub tried : new.tried ≡ old.tried
 
--- The first ones of them were: `ok` and their replies were written, but for the end of the last one at most, and of what
--- the devices sent a front.
+-- The first ones of them were: `ok` and their replies were written, but for the end of the last one at most, and of
+-- what the devices sent a front.
 pub record RunsInPart (start : State) (devices : List DeviceLine) (events : List Numbered) (old new : HostView) : Type 0 where
   pub done : List Numbered
   pub left : List Numbered

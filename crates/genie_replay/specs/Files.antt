@@ -24,8 +24,8 @@ abbrev pub HoldsOfFile : (ℕ → ℕ → Type 0) → Option (List ℕ) → ℕ 
 HoldsOfFile P None number handle = ⊤
 HoldsOfFile P (Some name) number handle = P number handle
 
--- P holds of each output of these lines, of the device's number and the output's handle, where so many files were opened
--- before them. Handles are counted from 1, and the output of a line is the last file that it opens.
+-- P holds of each output of these lines, of the device's number and the output's handle, where so many files were
+-- opened before them. Handles are counted from 1, and the output of a line is the last file that it opens.
 abbrev pub HoldsOfOutputs : (ℕ → ℕ → Type 0) → ℕ → List DeviceLine → Type 0
 HoldsOfOutputs P opened [] = ⊤
 HoldsOfOutputs P opened (d ∷ devices) = HoldsOfFile P d.output d.number (opened + length (openings_of d)) × HoldsOfOutputs P (opened + length (openings_of d)) devices
@@ -96,8 +96,8 @@ pub record IsUnwritten (old new : HostView) (number handle : ℕ) : Type 0 where
   pub fresh : handle ≤ new.opened → IsFresh old new number handle
   pub closed : new.opened < handle → IsSameHandle old new number handle
 
--- Opening files: the handles up to the last one that was open stay as they are, and so do those behind the last one that is
--- open now. After a failure, which has its cause, fewer were opened than these.
+-- Opening files: the handles up to the last one that was open stay as they are, and so do those behind the last one
+-- that is open now. After a failure, which has its cause, fewer were opened than these.
 pub record Opening {E T : Type 0} (failed : E) (openings : List (List ℕ × Direction)) (old new : HostView) (result : Result T E) : Type 0 where
   pub kept : KeptUpTo old.opened old new
   pub later : old.opened ≤ new.opened

@@ -22,15 +22,15 @@ StaysWithin most old new (Ok (Some b)) = old ≤ most → new + 1 ≤ most
 StaysWithin most old new (Ok None) = new ≡ 0
 StaysWithin most old new (Err e) = new ≡ 0
 
--- The lines that are left, of which the first one was read: it is this one, and those of the rest follow; there is none;
--- or it is too long.
+-- The lines that are left, of which the first one was read: it is this one, and those of the rest follow; there is
+-- none; or it is too long.
 abbrev pub IsPending : List (List ℕ) → LineStep → List ℕ → List ℕ → Type 0
 IsPending lines Line line rest = (lines ≡ line ∷ lines_of rest) × (length line ≤ 8300)
 IsPending lines End line rest = lines ≡ []
 IsPending lines TooLong line rest = (long : List ℕ) × (more : List (List ℕ)) × (lines ≡ long ∷ more) × (8300 < length long)
 
--- The bytes that were taken from a text: a line and its end, or at the text's end the line alone; none; of a line that is
--- too long the first 8,300, and one more.
+-- The bytes that were taken from a text: a line and its end, or at the text's end the line alone; none; of a line that
+-- is too long the first 8,300, and one more.
 abbrev pub IsTaken : List ℕ → LineStep → List ℕ → List ℕ → Type 0
 IsTaken text Line line rest = (text ≡ line ++ 10 ∷ rest) ⊎ ((text ≡ line) × (rest ≡ []))
 IsTaken text End line rest = (text ≡ []) × (rest ≡ [])

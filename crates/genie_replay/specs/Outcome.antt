@@ -54,8 +54,8 @@ HasAll s old new number handle = Appends (empty_told (old.handle 0).bytes) (new.
 abbrev pub HasFront : State → HostView → HostView → ℕ → ℕ → Type 0
 HasFront s old new number handle = AppendsFront (empty_told (old.handle 0).bytes) (new.handle handle).bytes (sent_of s number)
 
--- All of these events were stepped from the boot on: the replies to them were written after the one to the boot part, and
--- each output has what its device sent.
+-- All of these events were stepped from the boot on: the replies to them were written after the one to the boot part,
+-- and each output has what its device sent.
 pub record Ran (script : List ℕ) (c : Config) (devices : List DeviceLine) (events : List Numbered) (old new : HostView) : Type 0 where
   pub start : State
   pub begins : IsBoot old.names c devices start
@@ -67,8 +67,8 @@ pub record Ran (script : List ℕ) (c : Config) (devices : List DeviceLine) (eve
   pub sent : HoldsOfOutputs (HasAll last old new) 1 devices
   pub tried : new.tried ≡ old.tried ++ openings script devices
 
--- The first ones of them were stepped: the reply to the boot part and the replies to them were written, but for the end of
--- the last one at most, and each output has a front of what its device sent.
+-- The first ones of them were stepped: the reply to the boot part and the replies to them were written, but for the end
+-- of the last one at most, and each output has a front of what its device sent.
 pub record RanInPart (script : List ℕ) (c : Config) (devices : List DeviceLine) (events : List Numbered) (old new : HostView) : Type 0 where
   pub done : List Numbered
   pub left : List Numbered
@@ -92,8 +92,8 @@ pub record RanNothing (script : List ℕ) (old new : HostView) : Type 0 where
   pub written : WroteNothing old new
   pub tried : new.tried ≡ old.tried ++ (script, Inward) ∷ []
 
--- No reply was written, the first ones of the run's openings were tried, the script's at least, and nothing was written to an
--- output.
+-- No reply was written, the first ones of the run's openings were tried, the script's at least, and nothing was written
+-- to an output.
 pub record CutShort (script : List ℕ) (devices : List DeviceLine) (old new : HostView) : Type 0 where
   pub written : WroteNothing old new
   pub tried : TriesFront (openings script devices) old new

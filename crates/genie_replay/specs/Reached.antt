@@ -11,7 +11,8 @@ use Rattle.genie_script.specs.Judge.{Booted, Numbered, Part, boot_part, events_f
 use Rattle.genie_script.specs.Texts.{lines_of}
 use Rattle.genie_replay.specs.Outcome.{Ran, RanInPart, events_of}
 
--- The state is orderly, and what each device has sent is a front of the records of its outputs that were accepted so far.
+-- The state is orderly, and what each device has sent is a front of the records of its outputs that were accepted so
+-- far.
 pub record IsSound (start : State) (es : List Event) (rs : List Reply) (mid : State) : Type 0 where
   pub orderly : IsOrderly mid
   pub sent : (d : ℕ) → SendsRecords d (outputs d start es rs) mid

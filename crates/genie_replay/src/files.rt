@@ -54,8 +54,8 @@ fn open_line<H: Host>(host: &mut H, device: &DeviceLine) -> Result<(), OpenRefus
     }
 }
 
-#[tactic(auto, using(crate::proofs::Filing::fresh_more, crate::proofs::Filing::inputs_more))]
 /// Opens the files of the devices, in the order of their lines.
+#[tactic(auto, using(crate::proofs::Filing::fresh_more, crate::proofs::Filing::inputs_more))]
 pub(crate) fn open_files<H: Host>(host: &mut H, devices: &[DeviceLine]) -> Result<(), OpenRefused>
     requires { (H.view host.old).opened + 2 * length devices.now < 20 }
     ensures opening { Opening OpenRefused.Failed (flat_map openings_of devices.now) (H.view host.old) (H.view host.new) result }
@@ -97,9 +97,9 @@ fn write_file<H: Host>(
     }
 }
 
-#[tactic(auto, using(crate::proofs::Filing::files_none))]
 /// Writes what the devices have sent to their outputs, in the order of their lines, where so many files were opened
 /// before.
+#[tactic(auto, using(crate::proofs::Filing::files_none))]
 pub(crate) fn write_files<H: Host>(
     host: &mut H,
     flat: &Flat,

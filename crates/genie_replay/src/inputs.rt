@@ -67,8 +67,8 @@ fn read_input<H: Host>(
     }
 }
 
-#[tactic(auto, using(crate::proofs::Gathering::read_none))]
 /// Gives the devices their inputs, in the order of their lines, where so many files were opened before.
+#[tactic(auto, using(crate::proofs::Gathering::read_none))]
 pub(crate) fn read_inputs<H: Host>(
     alloc: Global,
     host: &mut H,
