@@ -1,5 +1,5 @@
 //! The boot part of a script, as it is read: a configuration and the lines of its devices.
-ghost use Rattle.std.specs.Prelude.{◌≡◌, ◌≤◌, length, IsTrue, true, IfOk, is_some};
+ghost use Rattle.std.specs.Prelude.{◌≡◌, ◌≤◌, length, IsTrue, true, IfOk, OnErr, is_some};
 ghost use Rattle.genie_base.specs.Configs.{Fits, config_of, device_config};
 ghost use Rattle.genie_script.specs.Judge.{boot_fits, is_bounded, is_input, is_named, is_output, has_place, keeps_limits, line_config, may_receive, may_send, config_with, part_of, with_device};
 
@@ -174,6 +174,7 @@ impl BootPart {
         requires place { has_place self.old.config device ≡ true }
         requires limits { keeps_limits self.old.config device ≡ true }
         ensures added { IfOk result (λ _. self.new ≡ with_device self.old device) }
+        ensures kept { OnErr result (self.new ≡ self.old) }
     {
         let config = with_line(&self.config, &device);
         match self.devices.push(device) {
