@@ -17,7 +17,7 @@ use Rattle.genie_model.specs.Tables.{entry}
 use Rattle.genie_model.specs.Regions.{regions_at, queue_of, is_region, region_numbered, fresh, reach_of, with_state}
 use Rattle.genie_model.specs.Pending.{is_just, names, add_transfer}
 use Rattle.genie_model.specs.Space.{zeros_at_place, add_region, is_move}
-use Rattle.genie_model.specs.Outputs.{place_reached, number_of, output_of, moved_out, after_output}
+use Rattle.genie_model.specs.Outputs.{place_reached, number_of, output_of, moved_out, give_up}
 use Rattle.genie_model.specs.Inputs.{pages_for, input_of, has_pages, is_reusable, reusable, moved_in, weak_buffer, with_buffer, number_or_fresh, posted, address_or_zero}
 use Rattle.genie_model.specs.Orderly.{LiesInRegion, Lies, moves_into, NumbersDiffer, IsOrderly}
 use Rattle.genie_model.proofs.Having.{Has, all_has, find_has, any_has, none_from, none_has, any_append}
@@ -28,6 +28,7 @@ use Rattle.genie_model.proofs.Adding.{IsFree, free_lies, added_found, added_held
 use Rattle.genie_model.proofs.Naming.{Joins, stand_push, fine_in}
 use Rattle.genie_model.proofs.Staying.{Stands, state_stands, remove_stands, add_stands, moved_out_place, moved_in_place, fresh_free, Reaches, reached, region_is}
 use Rattle.genie_model.proofs.Unused.{few_numbers}
+use Rattle.genie_model.proofs.Accepted.{page_some}
 
 found_at : (s : State) → NumbersDiffer s → (r : Region) → Has r (all_of s.processes) → region_numbered s r.number ≡ Some r
 found_at s differs r there = region_found s r.number ∙ only_region s.orphans (all_of s.processes) (differ s differs) r there
@@ -58,7 +59,7 @@ module _ (s : State) (p : ℕ) (to : Address) (a n : ℕ) (r : Region) (o : IsOr
   still_free : (u : Transfer) → moves_into r.number u ≡ false → list_any (moves_into r.number) (s.transfers ++ u ∷ []) ≡ false
   still_free u not_moved = any_append (moves_into r.number) s.transfers (u ∷ []) ∙ or_from (list_any (moves_into r.number) s.transfers) (moves_into r.number u || false) reached_free (or_from (moves_into r.number u) false not_moved refl)
 
-  output_reached : (class : Class) → Stands (after_output (add_transfer s (output_of s p class to a n (Some r))) class (Some r))
+  output_reached : (class : Class) → Stands (give_up (add_transfer s (output_of s p class to a n (Some r))) class (Some r))
   output_reached Copy = let u = output_of s p Copy to a n (Some r) in push_stands s (add_transfer s u) u refl tt (joins_none s.transfers u refl) h
   output_reached Share = let u = output_of s p Share to a n (Some r) in push_stands s (add_transfer s u) u refl (reached_lies u refl refl) (joins_weak s.transfers u r.number refl refl reached_free) h
   output_reached Move =
@@ -75,17 +76,13 @@ module _ (s : State) (p : ℕ) (to : Address) (a n : ℕ) (r : Region) (o : IsOr
       let v = input_of s p Share to n None (Some r.number) (place_reached s (Some r) a) in
       push_stands s (add_transfer s v) v refl (reached_lies v refl refl) (joins_weak s.transfers v r.number refl refl reached_free) h)
 
-pub output_stands : (s : State) (p : ℕ) (class : Class) (to : Address) (a n : ℕ) (found : Option Region) → IsOrderly s → reach_of s p a n ≡ found → is_some found ≡ true → Stands s → Stands (after_output (add_transfer s (output_of s p class to a n found)) class found)
+pub output_stands : (s : State) (p : ℕ) (class : Class) (to : Address) (a n : ℕ) (found : Option Region) → IsOrderly s → reach_of s p a n ≡ found → is_some found ≡ true → Stands s → Stands (give_up (add_transfer s (output_of s p class to a n found)) class found)
 output_stands s p class to a n (Some r) o e here h = output_reached s p to a n r o e h class
 output_stands s p class to a n None o e here h = absurd (true≢false (sym here))
 
 share_stands : (s : State) (p : ℕ) (to : Address) (a n : ℕ) (found : Option Region) → IsOrderly s → reach_of s p a n ≡ found → is_some found ≡ true → Stands s → Stands (add_transfer s (input_of s p Share to n None (number_of found) (place_reached s found a)))
 share_stands s p to a n None o e here h = absurd (true≢false (sym here))
 share_stands s p to a n (Some r) o e here h = share_reached s p to a n r o e h (input_of s p Share to n None (Some r.number) (place_reached s (Some r) a)) refl
-
-page_some : (page : ℕ) → is_page_size page ≡ true → 0 < page
-page_some zero e = absurd (cc)
-page_some (suc n) e = omega arith
 
 enough : (s : State) (n : ℕ) → Fits s.config → n ≤ pages_for s n * s.config.page
 enough s n fits = let some = page_some s.config.page fits.page in omega (arith, some, mul_comm s.config.page (pages_for s n))

@@ -13,9 +13,9 @@ use Rattle.genie_base.specs.declared.semantics.Direction.TheVariants.{Outward, I
 use Rattle.genie_model.specs.State.{State, Region, Transfer}
 use Rattle.genie_model.specs.Regions.{is_region, region_numbered, place_in, write_reach_of, changed_in, change_region, with_state, put}
 use Rattle.genie_model.specs.Pending.{is_early_at, is_numbered, is_just, pending}
-use Rattle.genie_model.specs.Outputs.{moved_out}
+use Rattle.genie_model.specs.Outputs.{moved_out, give_up}
 use Rattle.genie_model.specs.Inputs.{address_or_zero}
-use Rattle.genie_model.specs.Ending.{without_transfer, region_of, finish_copy, filled, finish_move, finish_share, finish_weak_move, finish_input, finish_owned, finish_for, finish_found, after_cancel, cancel_found}
+use Rattle.genie_model.specs.Ending.{without_transfer, region_of, finish_copy, filled, finish_move, finish_share, finish_weak_move, finish_input, finish_owned, finish_for, finish_found, cancel_found}
 use Rattle.genie_model.specs.Orderly.{moves_into, NumbersDiffer}
 use Rattle.genie_model.proofs.Having.{Has, find_has}
 use Rattle.genie_model.proofs.Finding.{all_of, region_found}
@@ -67,7 +67,7 @@ module _ (s : State) (t : Transfer) (none : (r : Region) → region_of s t ≡ S
   for_stands None = h
   for_stands (Some p) = owned_stands p t.direction
 
-  cancel_stands : NumbersDiffer s → (class : Class) (o : Option Region) → region_of s t ≡ o → Stands (after_cancel s class o)
+  cancel_stands : NumbersDiffer s → (class : Class) (o : Option Region) → region_of s t ≡ o → Stands (give_up s class o)
   cancel_stands differs class None e = h
   cancel_stands differs Copy (Some r) e = h
   cancel_stands differs Share (Some r) e = h

@@ -18,10 +18,10 @@ use Rattle.genie_base.specs.declared.region.RegionState.TheVariants.{Live, In, O
 use Rattle.genie_base.specs.declared.reply.Mark.{Mark}
 use Rattle.genie_base.specs.declared.semantics.Class.{Class}
 use Rattle.genie_base.specs.declared.semantics.Class.TheVariants.{Copy, Share, Move, WeakMove}
-use Rattle.genie_model.specs.Ending.{without_transfer, region_of, after_cancel, cancel_found}
+use Rattle.genie_model.specs.Ending.{without_transfer, region_of, cancel_found}
 use Rattle.genie_model.specs.Inputs.{pages_for, reusable, moved_in_of, weak_buffer, with_buffer}
 use Rattle.genie_model.specs.Orderly.{LiesInRegion, LiesInOrphan, Lies, orphan_numbers, NumbersDiffer, IsOrderly}
-use Rattle.genie_model.specs.Outputs.{output_of, moved_out_of, after_output}
+use Rattle.genie_model.specs.Outputs.{output_of, moved_out_of, give_up}
 use Rattle.genie_model.specs.Pending.{is_just, names, names_weakly, covers, first_queued, pending, add_transfer}
 use Rattle.genie_model.specs.Refusing.{over_backing, accessible_pages, refuse}
 use Rattle.genie_model.specs.Regions.{extent_of, regions_of, regions_at, is_alive, reach_of, is_region, has_number, region_numbered, is_orphan, orphan_numbered, is_within_range, byte_within, bytes_within, orphan_part, region_part, bytes_of, change_process, changed, changed_in, with_state, with_mode}
@@ -32,7 +32,7 @@ use Rattle.genie_model.specs.Step.{perform, with_budget, step}
 use Rattle.genie_model.specs.Tables.{entry}
 use Rattle.genie_model.proofs.Among.{Among, among_has, has_among, among_left, among_right, among_map, among_filter, among_put, among_left_or_there, among_set}
 use Rattle.genie_model.proofs.Arriving.{choice}
-use Rattle.genie_model.proofs.Causes.{first_none}
+use Rattle.genie_model.proofs.Accepted.{spawn_accepted, fork_accepted}
 use Rattle.genie_model.proofs.Distinct.{numbers_differ}
 use Rattle.genie_model.proofs.Finding.{all_of, region_found, has_region, differ, numbers_in, only_region, no_orphan}
 use Rattle.genie_model.proofs.Having.{Has, all_has, any_has, has_any, find_has, has_map, has_either, pairs_head, pairs_tail, pairs_right}
@@ -233,12 +233,11 @@ module _ (k x : ℕ) (b : List ℕ) where
   protect_has s None writable h = h
   protect_has s (Some r) writable h = place_has (changed_in r.number (with_mode writable)) (λ p. changed_has r.number (with_mode writable) (λ q g. g) p.regions) s h
 
-  output_has : (s : State) (class : Class) (o : Option Region) → Tells s → There s o → HasByte s → HasByte (after_output s class o)
-  output_has s class None tells there h = h
-  output_has s Copy (Some r) tells there h = h
-  output_has s Share (Some r) tells there h = h
-  output_has s Move (Some r) tells there h = remove_has s r (tells r there) h
-  output_has s WeakMove (Some r) tells there h = place_has (moved_out_of r.number) (out_has r.number) s h
+  given_up_has : (s : State) (class : Class) (o : Option Region) → Tells s → There s o → HasByte s → HasByte (give_up s class o)
+  given_up_has s class None tells there h = h
+  given_up_has s Move (Some r) tells there h = remove_has s r (tells r there) h
+  given_up_has s WeakMove (Some r) tells there h = place_has (moved_out_of r.number) (out_has r.number) s h
+  given_up_has s class (Some r) tells there h = h
 
   weak_has : (s : State) (p n : ℕ) (o : Option ℕ) → HasByte s → HasByte (weak_buffer s p n o)
   weak_has s p n None h = add_has s p (zeros_at_place s In p (pages_for s n)) h
@@ -254,16 +253,9 @@ module _ (k x : ℕ) (b : List ℕ) where
   send_has s d n None h = h
   send_has s d n (Some t) h = choice HasByte (must_stage s d t) _ _ h h
 
-  ended_has : (s : State) (class : Class) (o : Option Region) → Tells s → There s o → HasByte s → HasByte (after_cancel s class o)
-  ended_has s class None tells there h = h
-  ended_has s Copy (Some r) tells there h = h
-  ended_has s Share (Some r) tells there h = h
-  ended_has s Move (Some r) tells there h = remove_has s r (tells r there) h
-  ended_has s WeakMove (Some r) tells there h = place_has (moved_out_of r.number) (out_has r.number) s h
-
   cancel_has : (s : State) (j : ℕ) (o : Option Transfer) → Tells s → HasByte s → HasByte (cancel_found s j o).0
   cancel_has s j None tells h = h
-  cancel_has s j (Some t) tells h = ended_has (without_transfer s j) t.class (region_of s t) tells (named_there s t.region) h
+  cancel_has s j (Some t) tells h = given_up_has (without_transfer s j) t.class (region_of s t) tells (named_there s t.region) h
 
   -- where a process comes, none was
   abbrev IsVacant : State → Event → Type 0
@@ -271,15 +263,9 @@ module _ (k x : ℕ) (b : List ℕ) where
   IsVacant s (Fork p q) = entry s.processes q ≡ None
   IsVacant s _ = ⊤
 
-  none_here : (o : Option Process) → is_some o ≡ false → o ≡ None
-  none_here None e = refl
-  none_here (Some p) e = absurd (cc)
-
   vacant : (s : State) (e : Event) → refuse s e ≡ None → IsVacant s e
-  vacant s (Spawn p) h = none_here (entry s.processes p) (first_none (is_alive s p, cause.Exists) [] (first_none (nat_lt 15 p, cause.Proc) ((is_alive s p, cause.Exists) ∷ []) h).1).0
-  vacant s (Fork p q) h =
-      let last : List (Bool × Refusal) = (over_backing s (sum_by accessible_pages (regions_at s p)), cause.Backing) ∷ [] in
-      none_here (entry s.processes q) (first_none (is_alive s q, cause.Exists) last (first_none (not (is_alive s p) || nat_lt 15 q, cause.Proc) ((is_alive s q, cause.Exists) ∷ last) h).1).0
+  vacant s (Spawn p) h = spawn_accepted s p h
+  vacant s (Fork p q) h = (fork_accepted s p q h).free
   vacant s e h = tt
 
   module _ (s : State) (tells : Tells s) (h : HasByte s) where
@@ -295,7 +281,7 @@ module _ (k x : ℕ) (b : List ℕ) where
     perform_has (Write p a bytes) quiet none = absurd (true≢false quiet)
     perform_has (Output p sem d port flow a n) quiet none =
         let to : Address = record { device = d; port = port; flow = flow } in
-        output_has (add_transfer s (output_of s p (class_of sem) to a n (reach_of s p a n))) (class_of sem) (reach_of s p a n) tells (found_there s (λ r. is_reached s.config.page a n (extent_of r)) p (reach_of s p a n) refl) h
+        given_up_has (add_transfer s (output_of s p (class_of sem) to a n (reach_of s p a n))) (class_of sem) (reach_of s p a n) tells (found_there s (λ r. is_reached s.config.page a n (extent_of r)) p (reach_of s p a n) refl) h
     perform_has (Input p sem d port flow a n) quiet none = input_has s p (class_of sem) n h
     perform_has (Send d n) quiet none = send_has s d n (first_queued s d) h
     perform_has (Recv d n) quiet none = absurd (true≢false quiet)
@@ -312,11 +298,8 @@ module _ (k x : ℕ) (b : List ℕ) where
     abbrev Lasts : State → Type 0
     Lasts t = list_any (covers k x) t.transfers ≡ true → HasByte t
 
-    step_lasts : (e : Event) (m : Mark) → may_store e ≡ false → (refusal : Option Refusal) → refuse s e ≡ refusal → Lasts (step s e m).0
-    step_lasts e m quiet (Some w) is = rw is (λ _. h)
-    step_lasts e m quiet None is =
-        let none = vacant s e is in
-        event_so Lasts s (λ _. h) e (tidy_has (perform s e).0 (perform_has e quiet none)) (λ j. tidy_has (perform s (with_budget e j)).0 (budget_has e j quiet none)) m
+    step_lasts : (e : Event) (m : Mark) → may_store e ≡ false → Lasts (step s e m).0
+    step_lasts e m quiet = event_so Lasts s (λ _. h) e (λ none. tidy_has (perform s e).0 (perform_has e quiet (vacant s e none))) (λ none j. tidy_has (perform s (with_budget e j)).0 (budget_has e j quiet (vacant s e none))) m
 
 lies_named : (s : State) (u : Transfer) (named : Option ℕ) (k : ℕ) → is_just named k ≡ true → Lies s u named → Lies s u (Some k)
 lies_named s u None k e h = absurd (cc)
@@ -340,4 +323,4 @@ others_leave s e m k x whole o quiet before after =
     let h = begins s u k x (region_numbered s k) (orphan_numbered s k) refl refl lies in
     let b : List ℕ = bytes_of s k x 1 in
     let tells : Tells k x b s = λ r has is. sym (ap (λ found. region_part x 1 found (orphan_part x 1 (orphan_numbered s k))) (region_there k x b s o.numbers r has is)) in
-    read_back k x b (step s e m).0 (numbers_differ s e m whole o) (step_lasts k x b s tells h e m quiet (refuse s e) refl after)
+    read_back k x b (step s e m).0 (numbers_differ s e m whole o) (step_lasts k x b s tells h e m quiet after)

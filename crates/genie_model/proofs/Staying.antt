@@ -1,5 +1,5 @@
 -- What transfers name stays there in the events on address spaces.
-use Rattle.std.proofs.Common.{◌≡◌, ℕ, zero, suc, ◌+◌, ◌*◌, ◌<◌, ◌≤◌, Bool, true, false, ◌&&◌, ◌==◌, List, [], ◌∷◌, ◌++◌, length, map, All, refl, ap, ◌∙◌, leb-true, add-mul, arith}
+use Rattle.std.proofs.Common.{◌≡◌, ℕ, zero, suc, ◌+◌, ◌*◌, ◌<◌, ◌≤◌, Bool, true, false, ◌&&◌, ◌==◌, List, [], ◌∷◌, ◌++◌, length, map, All, refl, ap, ◌∙◌, leb-true, add-mul, arith, get_or}
 use Rattle.std.specs.Prelude.{Option, Some, None, nat_le, nat_lt}
 use Rattle.std.specs.List.{list_any}
 use Rattle.std.proofs.lemmas.Bool.{cond_both, and_parts, or_parts}
@@ -15,12 +15,13 @@ use Rattle.genie_model.specs.Space.{add_region, remove, accessible, copy_of, add
 use Rattle.genie_model.specs.Outputs.{moved_out_of, moved_out}
 use Rattle.genie_model.specs.Inputs.{moved_in_of, moved_in}
 use Rattle.genie_model.specs.Orderly.{moves_into, numbers, NumbersDiffer, IsRegion, AreApart, RegionsAreApart, IsOrderly}
-use Rattle.genie_model.proofs.Having.{Has, all_has, find_has}
+use Rattle.genie_model.proofs.Having.{Has, all_has, find_has, at_entry}
 use Rattle.genie_model.proofs.Finding.{all_of, region_found, has_region, differ, only_region, no_orphan}
 use Rattle.genie_model.proofs.Standing.{Stand, stand_stays, stand_beside}
 use Rattle.genie_model.proofs.Changing.{InPlace, in_place_by, place_keeps_lies, place_keeps_held, place_keeps_others, put_in_place, remove_keeps_lies, remove_keeps_held}
-use Rattle.genie_model.proofs.Adding.{IsFree, unused_free, add_keeps_lies, add_keeps_held, numbers_few, added_numbers, spawned_all, spawn_keeps_lies, spawn_keeps_held}
+use Rattle.genie_model.proofs.Adding.{IsFree, unused_free, add_keeps_lies, add_keeps_held, numbers_few, spawned_all, spawn_keeps_lies, spawn_keeps_held}
 use Rattle.genie_model.proofs.Unused.{fresh_unused, few_numbers_beside}
+use Rattle.genie_model.proofs.Numbered.{added_length}
 
 -- what all transfers of the state name is there
 abbrev pub Stands : State → Type 0
@@ -85,16 +86,11 @@ copies_stand : (s : State) (q : ℕ) (regions : List Region) → length (numbers
 copies_stand s q [] few h = h
 copies_stand s q (r ∷ regions) few h =
     let t : State = add_region s q (copy_of s r) in
-    copies_stand t q regions (omega (arith, few, added_numbers s q (copy_of s r))) (add_stands s s.transfers h q (copy_of s r) (fresh_free s (omega arith)))
-
-few_at : (page : ℕ) (ps : List (Option Process)) → All (λ (p : Option Process). AreApart page (regions_of p)) ps → (p : ℕ) → length (regions_of (entry ps p)) ≤ 32
-few_at page [] h p = omega arith
-few_at page (x ∷ ps) h zero = (All-head (λ (p : Option Process). AreApart page (regions_of p)) x ps h).few
-few_at page (x ∷ ps) h (suc p) = few_at page ps (All-tail (λ (p : Option Process). AreApart page (regions_of p)) x ps h) p
+    copies_stand t q regions (omega (arith, few, added_length s q (copy_of s r))) (add_stands s s.transfers h q (copy_of s r) (fresh_free s (omega arith)))
 
 pub fork_stands : (s : State) (p q : ℕ) → IsOrderly s → (q < 16) × (entry s.processes q ≡ None) → Stands s → Stands (fork s p q).0
 fork_stands s p q o may h = copies_stand (spawned s q) q (accessible (regions_at s p))
-    (omega (arith, few_numbers_beside s q o may.0 may.1, numbers_few s, numbers_few (spawned s q), ap length (spawned_all s q may.1), few_at s.config.page s.processes o.regions p, length-filter (λ (r : Region). is_accessible r.state) (regions_at s p), count_by-le-length (λ (r : Region). is_accessible r.state) (regions_at s p)))
+    (omega (arith, few_numbers_beside s q o may.0 may.1, numbers_few s, numbers_few (spawned s q), ap length (spawned_all s q may.1), at_entry (λ (x : Option Process). length (regions_of x) ≤ 32) s.processes p (omega arith) (λ k d lt. (o.regions k d lt).few), length-filter (λ (r : Region). is_accessible r.state) (regions_at s p), count_by-le-length (λ (r : Region). is_accessible r.state) (regions_at s p)))
     (spawn_stands s q may.1 h)
 
 -- an access reaches a region, and the range lies there
@@ -104,9 +100,7 @@ pub record Reaches (s : State) (r : Region) (a n : ℕ) : Type 0 where
   pub within : place_in s r a + n ≤ length r.bytes
 
 pub region_is : (page : ℕ) (ps : List (Option Process)) → All (λ (p : Option Process). AreApart page (regions_of p)) ps → (p : ℕ) (r : Region) → Has r (regions_of (entry ps p)) → IsRegion page r
-region_is page [] h p r has = absurd has
-region_is page (x ∷ ps) h zero r has = all_has (IsRegion page) (regions_of x) (All-head (λ (p : Option Process). AreApart page (regions_of p)) x ps h).each r has
-region_is page (x ∷ ps) h (suc p) r has = region_is page ps (All-tail (λ (p : Option Process). AreApart page (regions_of p)) x ps h) p r has
+region_is page ps h p r has = at_entry (λ (o : Option Process). Has r (regions_of o) → IsRegion page r) ps p (λ no. absurd no) (λ k d lt. all_has (IsRegion page) (regions_of (get_or ps k d)) (h k d lt).each r) has
 
 pub reached : (s : State) (p a n : ℕ) (r : Region) → RegionsAreApart s → reach_of s p a n ≡ Some r → Reaches s r a n
 reached s p a n r apart e =

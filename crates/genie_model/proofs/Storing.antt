@@ -30,7 +30,7 @@ use Rattle.genie_model.proofs.Having.{any_has, has_any, find_has}
 use Rattle.genie_model.proofs.Inside.{IsNew, put_gives}
 use Rattle.genie_model.proofs.Lasting.{names_covered, cut_has, others_leave}
 use Rattle.genie_model.proofs.Naming.{any_count, count_taken}
-use Rattle.genie_model.proofs.Queueing.{finish_for_like}
+use Rattle.genie_model.proofs.Aside.{finish_for_like}
 use Rattle.genie_model.proofs.Standing.{tidy_orphan}
 use Rattle.genie_model.proofs.Staying.{live_place}
 use Rattle.genie_model.proofs.Stepping.{event_so}
@@ -142,7 +142,7 @@ module _ (s : State) (e : Event) (k x : ℕ) where
   step_shows : IsShown (perform s e).0 → ((b : ℕ) → with_budget e b ≡ e) → (m : Mark) → IsShown (step s e m).0
   step_shows shown same m =
       let tidied : IsShown (tidy (perform s e).0) = λ c. rw (tidy_part k x (perform s e).0 c) (shown c) in
-      event_so IsShown s (λ _. inl refl) e tidied (λ b. rw (same b) tidied) m
+      event_so IsShown s (λ _. inl refl) e (λ _. tidied) (λ _ b. rw (same b) tidied) m
 
 pub covered_bytes_stay : CoveredBytesStay
 covered_bytes_stay s (Write p a bytes) m k x whole o before after = step_shows s (Write p a bytes) k x (λ _. write_shows s p a bytes k x o (reach_of s p a (length bytes)) refl) (λ b. refl) m after
