@@ -1,5 +1,5 @@
 -- What the number of a region or an orphan finds, and what it finds where regions or orphans are changed.
-use Rattle.std.proofs.Common.{◌≡◌, ℕ, zero, suc, false, ◌==◌, inl, inr, List, [], ◌∷◌, ◌++◌, map, find, flat_map, AllPairs, ◌≢◌, refl, sym, ap, ap₂, subst, ◌∙◌, append_assoc, eqb-true, eq-eqb, ne_eqb}
+use Rattle.std.proofs.Common.{◌≡◌, ℕ, zero, suc, false, ◌==◌, inl, inr, List, [], ◌∷◌, ◌++◌, map, find, flat_map, AllPairs, ◌≢◌, refl, sym, ap, ap₂, subst, ◌∙◌, append_assoc, eqb-true, eq-eqb, ne_eqb, true}
 use Rattle.std.specs.Prelude.{Option, Some, None, slice_set}
 use Rattle.std.specs.Option.{option_flatten}
 use Rattle.std.specs.List.{list_any}
@@ -7,10 +7,10 @@ use Rattle.std.proofs.lemmas.Bool.{cond_both, cond-true, cond-false, or_parts}
 use Rattle.std.proofs.lemmas.List.{map-append}
 use Rattle.genie_model.specs.State.{State, Region, Orphan, Process}
 use Rattle.genie_model.specs.Tables.{entry}
-use Rattle.genie_model.specs.Regions.{regions_of, regions_at, is_region, is_orphan, has_number, region_numbered, change_process}
+use Rattle.genie_model.specs.Regions.{regions_of, regions_at, is_region, is_orphan, has_number, region_numbered, change_process, orphan_numbered}
 use Rattle.genie_model.specs.Space.{as_orphan, add_orphan, add_orphans}
 use Rattle.genie_model.specs.Orderly.{region_numbers, orphan_numbers, NumbersDiffer}
-use Rattle.genie_model.proofs.Having.{Has, or_next, has_left, has_right, has_map, none_from, find_append, find_first, find_none, none_found, find_put_other, find_put_here, pairs_head, pairs_tail, entry_map}
+use Rattle.genie_model.proofs.Having.{Has, or_next, has_left, has_right, has_map, none_from, find_append, find_first, find_none, none_found, find_put_other, find_put_here, pairs_head, pairs_tail, entry_map, find_has}
 
 abbrev pub all_of : List (Option Process) → List Region
 all_of processes = flat_map regions_of processes
@@ -24,6 +24,10 @@ found_joined k (p ∷ ps) = cond_both (has_number k p) (Some p) (find (has_numbe
 -- the first one in all processes
 pub region_found : (s : State) (k : ℕ) → region_numbered s k ≡ find (is_region k) (all_of s.processes)
 region_found s k = found_joined k s.processes
+
+-- it is there, with that number
+pub number_has : (s : State) (k : ℕ) (r : Region) → region_numbered s k ≡ Some r → Has r (all_of s.processes) × (is_region k r ≡ true)
+number_has s k r e = find_has (is_region k) (all_of s.processes) r (sym (region_found s k) ∙ e)
 
 has_all : (ps : List (Option Process)) (p : ℕ) (r : Region) → Has r (regions_of (entry ps p)) → Has r (all_of ps)
 has_all [] p r h = absurd h
@@ -95,6 +99,13 @@ module _ (os : List Orphan) where
   no_orphan (q ∷ rs) h r (inl e) = subst (λ (x : Region). list_any (is_orphan x.number) os ≡ false) e (none_from (is_orphan q.number) os
       (λ o there. ne_eqb o.number q.number (λ same. pairs_head (λ (a b : ℕ). a ≢ b) q.number (numbers_in rs ++ orphan_numbers os) h o.number (has_right o.number (numbers_in rs) (orphan_numbers os) (has_map (λ (x : Orphan). x.number) o os there)) (sym same))))
   no_orphan (q ∷ rs) h r (inr e) = no_orphan rs (pairs_tail (λ (a b : ℕ). a ≢ b) q.number (numbers_in rs ++ orphan_numbers os) h) r e
+
+module _ (s : State) (differs : NumbersDiffer s) (r : Region) (there : Has r (all_of s.processes)) (k : ℕ) (is : r.number ≡ k) where
+  pub found_at : region_numbered s k ≡ Some r
+  found_at = region_found s k ∙ subst (λ n. find (is_region n) (all_of s.processes) ≡ Some r) is (only_region s.orphans (all_of s.processes) (differ s differs) r there)
+
+  pub no_orphan_at : orphan_numbered s k ≡ None
+  no_orphan_at = find_none (is_orphan k) s.orphans (subst (λ n. list_any (is_orphan n) s.orphans ≡ false) is (no_orphan s.orphans (all_of s.processes) (differ s differs) r there))
 
 -- regions become orphans, one after the other
 pub orphans_beside : (k : ℕ) (rs : List Region) (os : List Orphan) → list_any (is_region k) rs ≡ false → find (is_orphan k) (add_orphans rs os) ≡ find (is_orphan k) os

@@ -34,7 +34,7 @@ use Rattle.genie_model.proofs.Among.{Among, among_has, has_among, among_left, am
 use Rattle.genie_model.proofs.Arriving.{choice}
 use Rattle.genie_model.proofs.Accepted.{spawn_accepted, fork_accepted}
 use Rattle.genie_model.proofs.Distinct.{numbers_differ}
-use Rattle.genie_model.proofs.Finding.{all_of, region_found, has_region, differ, numbers_in, only_region, no_orphan}
+use Rattle.genie_model.proofs.Finding.{all_of, region_found, has_region, differ, numbers_in, only_region, no_orphan, number_has, found_at}
 use Rattle.genie_model.proofs.Having.{Has, all_has, any_has, has_any, find_has, has_map, has_either, pairs_head, pairs_tail, pairs_right}
 use Rattle.genie_model.proofs.Stepping.{event_so}
 
@@ -184,18 +184,15 @@ module _ (k x : ℕ) (b : List ℕ) where
       rw other (only_orphan os (pairs_tail (λ (a c : ℕ). a ≢ c) q.number (orphan_numbers os) apart) o e is)
 
   module _ (s : State) (differs : NumbersDiffer s) where
-    region_there : (r : Region) → Has r (all_of s.processes) → r.number ≡ k → region_numbered s k ≡ Some r
-    region_there r has is = region_found s k ∙ subst (λ n. find (is_region n) (all_of s.processes) ≡ Some r) is (only_region s.orphans (all_of s.processes) (differ s differs) r has)
-
     no_region : (o : Orphan) → Has o s.orphans → o.number ≡ k → (found : Option Region) → region_numbered s k ≡ found → found ≡ None
     no_region o has is None e = refl
     no_region o has is (Some r) e =
-        let there = find_has (is_region k) (all_of s.processes) r (sym (region_found s k) ∙ e) in
+        let there = number_has s k r e in
         let none = no_orphan s.orphans (all_of s.processes) (differ s differs) r there.0 in
         absurd (true≢false (sym (has_any (is_orphan r.number) o s.orphans has (rw (is, eqb-true r.number k there.1) (eq-eqb k k refl))) ∙ none))
 
     read_back : HasByte s → bytes_of s k x 1 ≡ b
-    read_back (inl h) = let some = among_has InRegion (all_of s.processes) (joined s.processes h) in rw (region_there some.0 some.1 some.2.0) some.2.1
+    read_back (inl h) = let some = among_has InRegion (all_of s.processes) (joined s.processes h) in rw (found_at s differs some.0 some.1 k some.2.0) some.2.1
     read_back (inr h) =
         let some = among_has InOrphan s.orphans h in
         let orphans = pairs_right (λ (a c : ℕ). a ≢ c) (numbers_in (all_of s.processes)) (orphan_numbers s.orphans) (differ s differs) in
@@ -215,7 +212,7 @@ module _ (k x : ℕ) (b : List ℕ) where
 
   numbered_there : (s : State) (j : ℕ) (o : Option Region) → region_numbered s j ≡ o → There s o
   numbered_there s j None e = tt
-  numbered_there s j (Some r) e = (find_has (is_region j) (all_of s.processes) r (sym (region_found s j) ∙ e)).0
+  numbered_there s j (Some r) e = (number_has s j r e).0
 
   named_there : (s : State) (named : Option ℕ) → There s (option_and_then (region_numbered s) named)
   named_there s None = tt
@@ -307,7 +304,7 @@ lies_named s u (Some n) k e h = subst (λ j. Lies s u (Some j)) (eqb-true n k e)
 
 begins : (s : State) (u : Transfer) (k x : ℕ) (r : Option Region) (o : Option Orphan) → region_numbered s k ≡ r → orphan_numbered s k ≡ o → LiesInRegion u r ⊎ LiesInOrphan u o → HasByte k x (region_part x 1 r (orphan_part x 1 o)) s
 begins s u k x (Some r) o e f h =
-    let found = find_has (is_region k) (all_of s.processes) r (sym (region_found s k) ∙ e) in
+    let found = number_has s k r e in
     inl (parted k x (part x 1 r.bytes) s.processes r (eqb-true r.number k found.1, refl) found.0)
 begins s u k x None (Some o) e f h =
     let found = find_has (is_orphan k) s.orphans o f in
@@ -322,5 +319,5 @@ others_leave s e m k x whole o quiet before after =
     let lies = lies_named s u u.region k named.1 (all_has (λ (t : Transfer). Lies s t t.region) s.transfers o.ranges u some.1) in
     let h = begins s u k x (region_numbered s k) (orphan_numbered s k) refl refl lies in
     let b : List ℕ = bytes_of s k x 1 in
-    let tells : Tells k x b s = λ r has is. sym (ap (λ found. region_part x 1 found (orphan_part x 1 (orphan_numbered s k))) (region_there k x b s o.numbers r has is)) in
+    let tells : Tells k x b s = λ r has is. sym (ap (λ found. region_part x 1 found (orphan_part x 1 (orphan_numbered s k))) (found_at s o.numbers r has k is)) in
     read_back k x b (step s e m).0 (numbers_differ s e m whole o) (step_lasts k x b s tells h e m quiet after)

@@ -13,7 +13,7 @@ use Rattle.genie_model.specs.Sending.{named_bytes}
 use Rattle.genie_model.specs.Orderly.{LiesInRegion, LiesInOrphan, Lies, IsOrderly}
 use Rattle.genie_model.specs.Integrity.{Stood}
 use Rattle.genie_model.proofs.Having.{all_has, any_has, find_has, find_none, pairs_head, pairs_tail}
-use Rattle.genie_model.proofs.Finding.{all_of, region_found, differ, no_orphan}
+use Rattle.genie_model.proofs.Finding.{all_of, region_found, differ, no_orphan, number_has, no_orphan_at}
 
 abbrev Below : ℕ × ℕ → ℕ × ℕ → Type 0
 Below a b = a.0 < b.0
@@ -100,9 +100,7 @@ rising s k None h e = tt
 rising s k (Some o) h e = all_has (λ (o : Orphan). AllPairs Below o.bytes) s.orphans h.order o (find_has (is_orphan k) s.orphans o e).0
 
 no_orphan_there : (s : State) (k : ℕ) → IsOrderly s → (r : Region) → region_numbered s k ≡ Some r → orphan_numbered s k ≡ None
-no_orphan_there s k h r e =
-    let found = find_has (is_region k) (all_of s.processes) r (sym (region_found s k) ∙ e) in
-    find_none (is_orphan k) s.orphans (subst (λ n. list_any (is_orphan n) s.orphans ≡ false) (eqb-true r.number k found.1) (no_orphan s.orphans (all_of s.processes) (differ s h.numbers) r found.0))
+no_orphan_there s k h r e = let found = number_has s k r e in no_orphan_at s h.numbers r found.0 k (eqb-true r.number k found.1)
 
 -- the bytes of this range stand in their places
 pub record Stands (s : State) (region : Option ℕ) (x n : ℕ) (bytes : List ℕ) : Type 0 where

@@ -12,16 +12,18 @@ use Rattle.genie_model.specs.State.{State, Region, Process, Transfer}
 use Rattle.genie_model.specs.Tables.{entry}
 use Rattle.genie_model.specs.Regions.{extent_of, regions_of, regions_at, is_region, has_number, fresh, reach_of, place_in, change_process, changed, changed_in, change_region, with_bytes, with_state, with_mode, put}
 use Rattle.genie_model.specs.Space.{add_region, remove, accessible, copy_of, add_copies, spawned, fork}
-use Rattle.genie_model.specs.Outputs.{moved_out_of, moved_out}
+use Rattle.genie_model.specs.Outputs.{moved_out_of, moved_out, give_up}
 use Rattle.genie_model.specs.Inputs.{moved_in_of, moved_in}
 use Rattle.genie_model.specs.Orderly.{moves_into, numbers, NumbersDiffer, IsRegion, AreApart, RegionsAreApart, IsOrderly}
 use Rattle.genie_model.proofs.Having.{Has, all_has, find_has, at_entry}
-use Rattle.genie_model.proofs.Finding.{all_of, region_found, has_region, differ, only_region, no_orphan}
+use Rattle.genie_model.proofs.Finding.{all_of, region_found, has_region, differ, only_region, no_orphan, found_at}
 use Rattle.genie_model.proofs.Standing.{Stand, stand_stays, stand_beside}
 use Rattle.genie_model.proofs.Changing.{InPlace, in_place_by, place_keeps_lies, place_keeps_held, place_keeps_others, put_in_place, remove_keeps_lies, remove_keeps_held}
 use Rattle.genie_model.proofs.Adding.{IsFree, unused_free, add_keeps_lies, add_keeps_held, numbers_few, spawned_all, spawn_keeps_lies, spawn_keeps_held}
 use Rattle.genie_model.proofs.Unused.{fresh_unused, few_numbers_beside}
 use Rattle.genie_model.proofs.Numbered.{added_length}
+use Rattle.genie_base.specs.declared.semantics.Class.{Class}
+use Rattle.genie_base.specs.declared.semantics.Class.TheVariants.{Move, WeakMove}
 
 -- what all transfers of the state name is there
 abbrev pub Stands : State → Type 0
@@ -46,7 +48,7 @@ module _ (s : State) (transfers : List Transfer) (h : Stand s transfers) where
 
   pub remove_stands : NumbersDiffer s → (r : Region) → Has r (all_of s.processes) → list_any (moves_into r.number) transfers ≡ false → Stand (remove s r) transfers
   remove_stands differs r there none = stand_beside s (remove s r) transfers r.number
-      (remove_keeps_lies s r (region_found s r.number ∙ only_region s.orphans (all_of s.processes) (differ s differs) r there) (no_orphan s.orphans (all_of s.processes) (differ s differs) r there))
+      (remove_keeps_lies s r (found_at s differs r there r.number refl) (no_orphan s.orphans (all_of s.processes) (differ s differs) r there))
       (remove_keeps_held s r) none h
 
   pub add_stands : (p : ℕ) (r : Region) → IsFree s r.number → Stand (add_region s p r) transfers
@@ -74,6 +76,12 @@ moved_in_place s k = in_place_state s (moved_in s k) k In (moved_in_of k) refl r
 
 pub live_place : (s : State) (k : ℕ) → InPlace s (change_region s k (with_state Live)) k (with_state Live)
 live_place s k = in_place_state s (change_region s k (with_state Live)) k Live (changed_in k (with_state Live)) refl refl (λ p. refl)
+
+-- a region that no move input names is given up
+pub give_up_stands : (s : State) → Stands s → NumbersDiffer s → (class : Class) (r : Region) → Has r (all_of s.processes) → list_any (moves_into r.number) s.transfers ≡ false → Stands (give_up s class (Some r))
+give_up_stands s h differs Move r there none = remove_stands s s.transfers h differs r there none
+give_up_stands s h differs WeakMove r there none = state_stands s s.transfers h (moved_out s r.number) r.number (with_state Out) (moved_out_place s r.number) none
+give_up_stands s h differs class r there none = h
 
 -- the numbers that are given to new regions are free
 pub fresh_free : (s : State) → length (numbers s) ≤ 576 → IsFree s (fresh s)

@@ -24,7 +24,7 @@ use Rattle.genie_model.specs.State.{State, Region, Orphan, Transfer}
 use Rattle.genie_model.specs.Step.{perform, with_budget, step}
 use Rattle.genie_model.proofs.Changing.{InPlace, place_found}
 use Rattle.genie_model.proofs.Covered.{inputs_keep_integrity}
-use Rattle.genie_model.proofs.Finding.{all_of, region_found}
+use Rattle.genie_model.proofs.Finding.{all_of, region_found, number_has}
 use Rattle.genie_model.proofs.Finishing.{named_region, filled_place}
 use Rattle.genie_model.proofs.Having.{any_has, has_any, find_has}
 use Rattle.genie_model.proofs.Inside.{IsNew, put_gives}
@@ -55,7 +55,7 @@ module _ (s : State) (j k x : ℕ) (f : Region → Region) (same : (r : Region) 
 
   change_part : InPlace s (change_region s j f) j f → bytes_of (change_region s j f) k x 1 ≡ bytes_of s k x 1
   change_part place = ap (λ o. region_part x 1 o (orphan_part x 1 (orphan_numbered s k))) (place_found s (change_region s j f) j f place k)
-      ∙ part_kept (region_numbered s k) _ (λ r e. eqb-true r.number k (find_has (is_region k) (all_of s.processes) r (sym (region_found s k) ∙ e)).1)
+      ∙ part_kept (region_numbered s k) _ (λ r e. eqb-true r.number k (number_has s k r e).1)
 
 -- a byte stays, or this event stored it
 abbrev Shows : State → Event → ℕ → ℕ → List ℕ → Type 0
