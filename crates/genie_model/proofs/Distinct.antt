@@ -38,6 +38,7 @@ use Rattle.genie_model.proofs.Numbered.{Once, IsThere, added_once, copies_once, 
 use Rattle.genie_model.proofs.Closing.{finish_for_keeps}
 use Rattle.genie_model.proofs.Stepping.{event_so}
 use Rattle.genie_model.proofs.Having.{at_entry}
+use Rattle.genie_model.proofs.Forking.{accessible_few}
 
 same_once : (s t : State) → numbers t ≡ numbers s → Once s → Once t
 same_once s t same most = subst (λ l. (k : ℕ) → times k l ≤ 1) (sym same) most
@@ -90,15 +91,11 @@ cancel_once s k (Some t) most = given_up_once (without_transfer s k) t.class (re
 
 fork_once : (s : State) (p q : ℕ) → IsOrderly s → refuse s (Fork p q) ≡ None → Once s → Once (fork s p q).0
 fork_once s p q o accepted most =
-    let regions : List Region = regions_at s p in
     let new = fork_accepted s p q accepted in
     let place = new.place in
     let room = few_numbers_beside s q o (omega arith) new.free in
-    let few = at_entry (λ (x : Option Process). length (regions_of x) ≤ 32) s.processes p (omega arith) (λ k d within. (o.regions k d within).few) in
-    let test : Region → Bool = λ r. is_accessible r.state in
-    let copies : length (accessible regions) ≤ 32 = omega (arith, few, length-filter test regions, count_by-le-length test regions) in
     let less = no_longer (numbers (spawned s q)) (numbers s) (spawned_times s q) in
-    copies_once (spawned s q) q (accessible regions) (omega (arith, room, copies, less)) (fewer_once s (spawned s q) (spawned_times s q) most)
+    copies_once (spawned s q) q (accessible (regions_at s p)) (omega (arith, room, accessible_few s p o.regions, less)) (fewer_once s (spawned s q) (spawned_times s q) most)
 
 perform_once : (s : State) (e : Event) → IsOrderly s → refuse s e ≡ None → Once s → Once (perform s e).0
 perform_once s (Spawn p) o h most = fewer_once s (spawned s p) (spawned_times s p) most

@@ -1,15 +1,17 @@
 -- Copies of regions, one after the other.
-use Rattle.std.proofs.Common.{◌≡◌, ℕ, zero, suc, ◌+◌, ◌<◌, ◌≤◌, true, false, List, [], ◌∷◌, length, drop, get_or, add-one, refl, sym, ap, ◌∙◌, arith}
+use Rattle.std.proofs.Common.{◌≡◌, ℕ, zero, suc, ◌+◌, ◌<◌, ◌≤◌, true, false, List, [], ◌∷◌, length, drop, get_or, add-one, refl, sym, ap, ◌∙◌, arith, Bool}
 use Rattle.std.specs.Prelude.{Option, Some, None, cond, map, nat_le, slice_set}
 use Rattle.std.proofs.Math.Seq.{drop-cons}
-use Rattle.genie_base.specs.Regions.{add_in_order}
+use Rattle.genie_base.specs.Regions.{add_in_order, is_accessible}
 use Rattle.genie_base.specs.declared.region.RegionState.TheVariants.{Live}
 use Rattle.genie_model.specs.State.{State, Region, Process}
 use Rattle.genie_model.specs.Regions.{extent_of, regions_of, regions_at, change_process, with_state}
-use Rattle.genie_model.specs.Space.{with_region, add_region, copy_of, add_copies}
+use Rattle.genie_model.specs.Space.{with_region, add_region, copy_of, add_copies, accessible}
 use Rattle.genie_model.specs.Tables.{entry}
-use Rattle.genie_model.proofs.Having.{entry_set}
+use Rattle.genie_model.proofs.Having.{entry_set, at_entry}
 use Rattle.genie_model.proofs.Apart.{length_added}
+use Rattle.genie_model.specs.Orderly.{RegionsAreApart}
+use Rattle.std.proofs.lemmas.List.Sums.{length-filter, count_by-le-length}
 
 -- a copy of a live copy is a copy
 pub copies_live : (s : State) (q : ℕ) (regions : List Region) → add_copies s q (map (with_state Live) regions) ≡ add_copies s q regions
@@ -27,3 +29,10 @@ in_process_few r (Some p) = omega (arith, length_added extent_of r p.regions)
 -- a process has at most one region more
 pub added_few : (s : State) (p : ℕ) (r : Region) → length (regions_at (add_region s p r) p) ≤ length (regions_at s p) + 1
 added_few s p r = entry_set (λ (o : Option Process). length (regions_of o) ≤ length (regions_at s p) + 1) s.processes p p (change_process (with_region r) (entry s.processes p)) (omega arith) (λ _. in_process_few r (entry s.processes p))
+
+-- no more than 32 regions are copied
+pub accessible_few : (s : State) (p : ℕ) → RegionsAreApart s → length (accessible (regions_at s p)) ≤ 32
+accessible_few s p apart =
+    let test : Region → Bool = λ r. is_accessible r.state in
+    let few = at_entry (λ (x : Option Process). length (regions_of x) ≤ 32) s.processes p (omega arith) (λ k d lt. (apart k d lt).few) in
+    omega (arith, few, length-filter test (regions_at s p), count_by-le-length test (regions_at s p))

@@ -24,6 +24,7 @@ use Rattle.genie_model.proofs.Unused.{fresh_unused, few_numbers_beside}
 use Rattle.genie_model.proofs.Numbered.{added_length}
 use Rattle.genie_base.specs.declared.semantics.Class.{Class}
 use Rattle.genie_base.specs.declared.semantics.Class.TheVariants.{Move, WeakMove}
+use Rattle.genie_model.proofs.Forking.{accessible_few}
 
 -- what all transfers of the state name is there
 abbrev pub Stands : State → Type 0
@@ -98,7 +99,7 @@ copies_stand s q (r ∷ regions) few h =
 
 pub fork_stands : (s : State) (p q : ℕ) → IsOrderly s → (q < 16) × (entry s.processes q ≡ None) → Stands s → Stands (fork s p q).0
 fork_stands s p q o may h = copies_stand (spawned s q) q (accessible (regions_at s p))
-    (omega (arith, few_numbers_beside s q o may.0 may.1, numbers_few s, numbers_few (spawned s q), ap length (spawned_all s q may.1), at_entry (λ (x : Option Process). length (regions_of x) ≤ 32) s.processes p (omega arith) (λ k d lt. (o.regions k d lt).few), length-filter (λ (r : Region). is_accessible r.state) (regions_at s p), count_by-le-length (λ (r : Region). is_accessible r.state) (regions_at s p)))
+    (omega (arith, few_numbers_beside s q o may.0 may.1, numbers_few s, numbers_few (spawned s q), ap length (spawned_all s q may.1), accessible_few s p o.regions))
     (spawn_stands s q may.1 h)
 
 -- an access reaches a region, and the range lies there
