@@ -1,11 +1,12 @@
 -- What is known of an accepted event that makes a region or a process.
 use Rattle.std.proofs.Common.{◌≡◌, ℕ, zero, suc, ◌+◌, ◌-◌, ◌*◌, ◌<◌, ◌≤◌, Bool, true, false, not, List, [], ◌∷◌, ◌++◌, length, refl, arith}
-use Rattle.std.specs.Prelude.{Option, Some, None, All, IsTrue, cond, find, unwrap_or, sum_by, nat_le, nat_lt, ◌||◌, is_some}
+use Rattle.std.specs.Prelude.{Option, Some, None, All, IsTrue, cond, find, unwrap_or, sum_by, nat_lt, ◌||◌, is_some}
 use Rattle.std.specs.List.{range_with_len}
 use Rattle.std.proofs.lemmas.Bool.Decides.{nat_tests}
 use Rattle.std.proofs.lemmas.List.Elements.{All-cons, All-head, All-tail, All-weaker}
 use Rattle.std.proofs.lemmas.List.Sums.{AllPass-from_list_all}
 use Rattle.std.proofs.lemmas.Nat.{div_below, le-div}
+use Rattle.std.proofs.lemmas.Bool.{not-false, leb-false}
 use Rattle.genie_base.specs.Configs.{DeviceConfig}
 use Rattle.genie_base.specs.Counts.{is_page_size}
 use Rattle.genie_base.specs.Regions.{is_apart, is_free}
@@ -23,7 +24,6 @@ use Rattle.genie_model.specs.Regions.{extent_of, regions_at, is_alive, place_of,
 use Rattle.genie_model.specs.State.{State, Region}
 use Rattle.genie_model.specs.Tables.{entry}
 use Rattle.genie_model.proofs.Causes.{Fails, none_holds, both_none, most_end}
-use Rattle.std.proofs.lemmas.Bool.{not-false, leb-false}
 
 -- n pages from this one on are a region that process p may get: in their area, free, and with room in the table of the
 -- process and in the store

@@ -1,12 +1,11 @@
 -- What is known of a call that is accepted: its number is the next one, and there is room for it.
-use Rattle.std.proofs.Common.{◌≡◌, ℕ, zero, suc, ◌+◌, ◌-◌, ◌*◌, ◌<◌, ◌≤◌, Bool, true, false, not, List, [], ◌∷◌, length, take, drop, refl, ap, sym, subst, arith, ltb-false}
+use Rattle.std.proofs.Common.{◌≡◌, ℕ, ◌+◌, ◌-◌, ◌*◌, ◌<◌, ◌≤◌, Bool, true, false, List, [], ◌∷◌, length, take, drop, refl, ap, sym, subst, arith, ltb-false}
 use Rattle.std.proofs.Math.Nat.{mul-add-div_right}
 use Rattle.std.proofs.lemmas.Bool.{cond_both, and_parts}
 use Rattle.std.proofs.lemmas.Bool.Decides.{nat_tests}
-use Rattle.std.specs.Prelude.{Option, Some, None, cond, IsTrue, ⊤, nat_le, nat_lt, ◌==◌, ◌&&◌, is_some, unwrap_or, All}
-use Rattle.std.proofs.lemmas.List.Elements.{All-nil, All-cons}
+use Rattle.std.specs.Prelude.{Option, Some, None, cond, IsTrue, ⊤, nat_le, nat_lt, ◌==◌, ◌&&◌, is_some, unwrap_or}
 use Rattle.genie_base.specs.Configs.{Fits}
-use Rattle.genie_base.specs.Counts.{is_page_size, span, cost}
+use Rattle.genie_base.specs.Counts.{span, cost}
 use Rattle.genie_base.specs.Events.{is_whole, has_one}
 use Rattle.genie_base.specs.Posted.{Address}
 use Rattle.genie_base.specs.Regions.{reach, is_reached, is_accessible, contains_range}

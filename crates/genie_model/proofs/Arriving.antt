@@ -2,7 +2,7 @@
 use Rattle.std.proofs.Common.{◌≡◌, ℕ, ◌+◌, Bool, true, false, List, [], ◌++◌, refl}
 use Rattle.std.specs.Prelude.{Option, Some, None, ⊤, take, drop, ◌==◌, if◌then◌else◌}
 use Rattle.std.proofs.lemmas.Bool.{cond_both}
-use Rattle.genie_base.specs.Headers.{header_taken, is_whole_header, is_valid_header, port_in, len_in, flow_in}
+use Rattle.genie_base.specs.Headers.{header_taken, is_whole_header, is_valid_header, port_in, flow_in}
 use Rattle.genie_base.specs.Configs.{most}
 use Rattle.genie_base.specs.declared.config.Kind.{Kind}
 use Rattle.genie_base.specs.declared.reply.Reply.{Reply}
@@ -15,7 +15,7 @@ use Rattle.genie_model.specs.Tables.{entry}
 use Rattle.genie_model.specs.Regions.{put}
 use Rattle.genie_model.specs.Pending.{is_early, pending, first_posted}
 use Rattle.genie_model.specs.Space.{Outcome}
-use Rattle.genie_model.specs.Receiving.{set_device, is_busy, with_phase, change_transfer, deliver, complete, landing, landed, land_in, land, after_bytes, go_on, take_payload, datagram, skipped, match_header, begin_datagram, read_header, header_reply, take_header, receive_record, receive, recv}
+use Rattle.genie_model.specs.Receiving.{set_device, is_busy, with_phase, change_transfer, deliver, complete, landing, landed, land_in, land, after_bytes, go_on, take_payload, datagram, skipped, match_header, begin_datagram, read_header, take_header, receive_record, receive, recv}
 
 pub choice : (P : State → Type 0) (b : Bool) (x y : Outcome) → P x.0 → P y.0 → P (if b then x else y).0
 choice P true x y p q = p

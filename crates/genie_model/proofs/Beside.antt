@@ -1,5 +1,5 @@
 -- Bytes beside those that are stored stay, and so do all bytes of orphans of which nothing is to be cut.
-use Rattle.std.proofs.Common.{◌≡◌, ℕ, zero, suc, ◌+◌, ◌<◌, ◌≤◌, Bool, true, false, ◌&&◌, ◌⊎◌, inl, inr, ⊎_elim, List, [], ◌∷◌, ◌++◌, length, map, filter, find, All, refl, sym, ap, ap₂, subst, ◌∙◌, eqb-true, arith}
+use Rattle.std.proofs.Common.{◌≡◌, ℕ, zero, suc, ◌+◌, ◌<◌, ◌≤◌, Bool, true, false, ◌&&◌, ◌⊎◌, inl, inr, ⊎_elim, List, [], ◌∷◌, length, map, filter, All, refl, sym, ap, ap₂, subst, ◌∙◌, eqb-true, arith, ◌++◌}
 use Rattle.std.specs.Prelude.{Option, Some, None, slice_index, nat_le, nat_lt, ◌-◌, ◌==◌}
 use Rattle.std.specs.Option.{option_map}
 use Rattle.std.specs.List.{list_any}
@@ -9,11 +9,11 @@ use Rattle.std.proofs.lemmas.List.Elements.{All-head, All-tail, All-map, All-wea
 use Rattle.genie_base.specs.Bytes.{overlaid, part}
 use Rattle.genie_model.specs.State.{State, Region, Orphan, Transfer}
 use Rattle.genie_model.specs.Pending.{covers}
-use Rattle.genie_model.specs.Regions.{is_region, is_orphan, region_numbered, orphan_numbered, is_within_range, byte_within, bytes_within, orphan_part, region_part, bytes_of, changed, with_bytes, stored_at, stored_in_orphan, put}
+use Rattle.genie_model.specs.Regions.{is_orphan, region_numbered, orphan_numbered, is_within_range, byte_within, bytes_within, orphan_part, region_part, bytes_of, changed, with_bytes, stored_at, stored_in_orphan, put}
 use Rattle.genie_model.specs.Space.{cut, is_named, tidy}
 use Rattle.genie_model.proofs.Changing.{place_found, put_orphan, put_in_place}
-use Rattle.genie_model.proofs.Finding.{all_of, region_found, number_has}
-use Rattle.genie_model.proofs.Having.{find_has, find_map}
+use Rattle.genie_model.proofs.Finding.{number_has}
+use Rattle.genie_model.proofs.Having.{find_has}
 use Rattle.genie_model.proofs.Ordered.{stored_place}
 
 -- place y is none of the n from place x on

@@ -1,15 +1,14 @@
 -- What transfers name stays there in calls, and so does what the new one names.
-use Rattle.std.proofs.Common.{◌≡◌, ℕ, zero, suc, ◌*◌, ◌<◌, ◌≤◌, true, false, not, ◌||◌, ◌==◌, inl, inr, List, [], ◌∷◌, ◌++◌, length, refl, sym, ap, subst, ◌∙◌, eqb-true, true≢false, mul_comm, arith}
+use Rattle.std.proofs.Common.{◌≡◌, ℕ, ◌*◌, ◌≤◌, true, false, not, ◌||◌, ◌==◌, inl, inr, List, [], ◌∷◌, ◌++◌, length, refl, sym, ap, subst, ◌∙◌, eqb-true, true≢false, mul_comm, arith}
 use Rattle.std.specs.Prelude.{Option, Some, None, is_some}
 use Rattle.std.specs.List.{list_any}
 use Rattle.std.proofs.lemmas.Bool.{and_parts, and_right, or_from, not-true, false_from_ne_true}
 use Rattle.std.proofs.lemmas.List.{length-replicate}
 use Rattle.genie_base.specs.Configs.{Fits}
-use Rattle.genie_base.specs.Counts.{is_page_size}
 use Rattle.genie_base.specs.Posted.{Address}
 use Rattle.genie_base.specs.Transfers.{is_system}
 use Rattle.genie_base.specs.declared.region.RegionState.{RegionState}
-use Rattle.genie_base.specs.declared.region.RegionState.TheVariants.{Out, In, Held}
+use Rattle.genie_base.specs.declared.region.RegionState.TheVariants.{In, Held}
 use Rattle.genie_base.specs.declared.semantics.Class.{Class}
 use Rattle.genie_base.specs.declared.semantics.Class.TheVariants.{Copy, Share, Move, WeakMove}
 use Rattle.genie_model.specs.State.{State, Region, Process, Transfer}
@@ -17,16 +16,16 @@ use Rattle.genie_model.specs.Tables.{entry}
 use Rattle.genie_model.specs.Regions.{regions_at, queue_of, is_region, region_numbered, fresh, reach_of, with_state}
 use Rattle.genie_model.specs.Pending.{is_just, names, add_transfer}
 use Rattle.genie_model.specs.Space.{zeros_at_place, add_region, is_move}
-use Rattle.genie_model.specs.Outputs.{place_reached, number_of, output_of, moved_out, give_up}
+use Rattle.genie_model.specs.Outputs.{place_reached, number_of, output_of, give_up}
 use Rattle.genie_model.specs.Inputs.{pages_for, input_of, has_pages, is_reusable, reusable, moved_in, weak_buffer, with_buffer, number_or_fresh, posted, address_or_zero}
-use Rattle.genie_model.specs.Orderly.{LiesInRegion, Lies, moves_into, NumbersDiffer, IsOrderly}
-use Rattle.genie_model.proofs.Having.{Has, all_has, find_has, any_has, none_from, none_has, any_append}
-use Rattle.genie_model.proofs.Finding.{all_of, region_found, has_region, differ, only_region, found_at}
+use Rattle.genie_model.specs.Orderly.{LiesInRegion, Lies, moves_into, IsOrderly}
+use Rattle.genie_model.proofs.Having.{all_has, find_has, any_has, none_from, none_has, any_append}
+use Rattle.genie_model.proofs.Finding.{has_region, found_at}
 use Rattle.genie_model.proofs.Standing.{Fine, AreFine, accessible_free}
 use Rattle.genie_model.proofs.Changing.{place_keeps_lies}
 use Rattle.genie_model.proofs.Adding.{IsFree, free_lies, added_found, added_held}
 use Rattle.genie_model.proofs.Naming.{Joins, stand_push, fine_in}
-use Rattle.genie_model.proofs.Staying.{Stands, state_stands, remove_stands, add_stands, moved_out_place, moved_in_place, fresh_free, Reaches, reached, region_is, give_up_stands}
+use Rattle.genie_model.proofs.Staying.{Stands, state_stands, add_stands, moved_in_place, fresh_free, Reaches, reached, region_is, give_up_stands}
 use Rattle.genie_model.proofs.Unused.{few_numbers}
 use Rattle.genie_model.proofs.Accepted.{page_some}
 

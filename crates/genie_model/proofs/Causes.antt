@@ -1,23 +1,21 @@
 -- The first cause of several lists, and what is known where there is none.
-use Rattle.std.proofs.Common.{◌≡◌, ℕ, ◌+◌, ◌*◌, ◌<◌, ◌≤◌, Bool, true, false, not, List, [], ◌∷◌, ◌++◌, length, refl, arith, leb-true}
-use Rattle.std.specs.Prelude.{Option, Some, None, IsSome, cond, find, nat_le, nat_lt, ◌&&◌, is_some, All}
+use Rattle.std.proofs.Common.{◌≡◌, ℕ, ◌*◌, ◌<◌, ◌≤◌, Bool, true, false, not, List, [], ◌∷◌, ◌++◌, length, refl, arith, leb-true}
+use Rattle.std.specs.Prelude.{Option, Some, None, cond, find, nat_le, ◌&&◌, is_some, All}
 use Rattle.std.specs.Option.{option_map}
-use Rattle.std.proofs.lemmas.Bool.Decides.{nat_tests}
+use Rattle.std.proofs.lemmas.Bool.{and_parts, not-false, leb-false}
+use Rattle.std.proofs.lemmas.List.Elements.{All-nil, All-cons}
 use Rattle.genie_base.specs.Configs.{DeviceConfig, most}
 use Rattle.genie_base.specs.declared.config.Kind.{Kind}
 use Rattle.genie_base.specs.declared.config.Kind.TheVariants.{Early, Pooled, Outboard}
 use Rattle.genie_base.specs.declared.refusal.Refusal.{Refusal}
-use Rattle.genie_base.specs.declared.refusal.Refusal.TheVariants.{Proc, Dev, Range, Denied, Regions, Space, Backing, Transfers, Frames}
+use Rattle.genie_base.specs.declared.refusal.Refusal.TheVariants.{Proc, Dev, Range}
 use Rattle.genie_base.specs.declared.semantics.Class.{Class}
 use Rattle.genie_base.specs.declared.semantics.Class.TheVariants.{Copy, Share, Move, WeakMove}
 use Rattle.genie_model.specs.State.{State}
-use Rattle.genie_model.specs.Regions.{regions_at, is_alive, place_of, reach_of, write_reach_of}
-use Rattle.genie_model.specs.Pending.{wired}
-use Rattle.genie_model.specs.Refusing.{first_cause, call_causes, new_region_causes, app_causes, sys_causes, buffer_causes, target_causes, must_make, most_of, has_input, over_backing, frames_to_wire}
+use Rattle.genie_model.specs.Regions.{regions_at, is_alive, reach_of}
+use Rattle.genie_model.specs.Refusing.{first_cause, call_causes, new_region_causes, app_causes, sys_causes, buffer_causes, target_causes, must_make, most_of, has_input}
 use Rattle.genie_model.specs.Inputs.{pages_for}
 use Rattle.genie_model.specs.Tables.{entry}
-use Rattle.std.proofs.lemmas.Bool.{and_parts, not-false, leb-false}
-use Rattle.std.proofs.lemmas.List.Elements.{All-nil, All-cons}
 
 -- the first one doesn't hold, and none of the others
 pub first_none : (x : Bool × Refusal) (xs : List (Bool × Refusal)) → first_cause (x ∷ xs) ≡ None → (x.0 ≡ false) × (first_cause xs ≡ None)

@@ -5,17 +5,13 @@ use Rattle.std.specs.Prelude.{Option, Some, None, ◌==◌, if◌then◌else◌}
 use Rattle.std.specs.List.{range_with_len}
 use Rattle.genie_base.specs.declared.event.Event.{Event}
 use Rattle.genie_base.specs.declared.event.Event.TheVariants.{Send, Recv}
-use Rattle.genie_base.specs.declared.refusal.Refusal.{Refusal}
-use Rattle.genie_base.specs.declared.reply.Mark.{Mark}
-use Rattle.genie_base.specs.declared.reply.Mark.TheVariants as mark
 use Rattle.genie_base.specs.declared.reply.Reply.{Reply}
 use Rattle.genie_base.specs.declared.reply.Reply.TheVariants as reply
 use Rattle.genie_base.specs.Events.{mark_of}
 use Rattle.genie_model.specs.State.{State, Transfer}
 use Rattle.genie_model.specs.Space.{Outcome}
 use Rattle.genie_model.specs.Laws.{id_of, ids, RunsCount}
-use Rattle.genie_model.specs.Refusing.{refuse}
-use Rattle.genie_model.specs.Step.{answer, marked, accept, failed, may_fail, uses_store, step}
+use Rattle.genie_model.specs.Step.{accept, failed, may_fail, step}
 use Rattle.genie_model.proofs.Keeping.{Did, call_of, accept_did}
 use Rattle.genie_model.proofs.Stepping.{outcome_so}
 

@@ -1,12 +1,12 @@
 -- What a receive step does: it stores the payload's bytes where a pending weak input covers their places, and devices receive for inputs alone.
-use Rattle.std.proofs.Common.{◌≡◌, ◌⊎◌, ℕ, ◌+◌, ◌-◌, ◌<◌, ◌≤◌, Bool, true, false, inl, inr, ⊎_elim, List, [], ◌∷◌, ◌++◌, length, get_or, find, All, AllPairs, refl, sym, ap, subst, ◌∙◌, true≢false, eqb-true, le-leb, lt-ltb, eq-eqb, arith}
+use Rattle.std.proofs.Common.{◌≡◌, ◌⊎◌, ℕ, ◌+◌, ◌-◌, ◌<◌, ◌≤◌, Bool, true, false, inl, inr, ⊎_elim, List, [], ◌++◌, length, get_or, find, All, AllPairs, refl, sym, ap, subst, ◌∙◌, true≢false, eqb-true, le-leb, lt-ltb, eq-eqb, arith}
 use Rattle.std.specs.Prelude.{Option, Some, None, IfSome, take, drop, nat_le, nat_lt, ◌==◌, ◌&&◌, if◌then◌else◌}
 use Rattle.std.specs.Option.{option_map}
 use Rattle.std.proofs.lemmas.Bool.{cond_both, and_parts, and_from}
 use Rattle.std.proofs.lemmas.Bool.Decides.{nat_tests}
-use Rattle.genie_base.specs.declared.reply.Reply.TheVariants as reply
 use Rattle.std.proofs.lemmas.List.{length-take, length-drop}
 use Rattle.std.proofs.lemmas.List.Elements.{All-weaker}
+use Rattle.genie_base.specs.declared.reply.Reply.TheVariants as reply
 use Rattle.genie_base.specs.Bytes.{part}
 use Rattle.genie_base.specs.Configs.{most}
 use Rattle.genie_base.specs.Headers.{header_taken, is_whole_header, is_valid_header, port_in, len_in, flow_in}
@@ -28,7 +28,7 @@ use Rattle.genie_model.specs.Step.{accept}
 use Rattle.genie_model.proofs.Arriving.{choice}
 use Rattle.genie_model.proofs.Behind.{part_taken, whole_taken, behind_header}
 use Rattle.genie_model.proofs.Beside.{IsNeat, neat_from_tidy, tidy_neat, neat_stored}
-use Rattle.genie_model.proofs.Having.{entry_set, Has, any_found, has_at, all_has, has_any, find_has, pairs_head, pairs_tail}
+use Rattle.genie_model.proofs.Having.{entry_set, Has, any_found, has_at, all_has, has_any, find_has}
 use Rattle.genie_model.proofs.Inside.{IsNew, put_gives}
 use Rattle.genie_model.proofs.Naming.{all_change, any_change}
 use Rattle.genie_model.proofs.Stepping.{event_so}

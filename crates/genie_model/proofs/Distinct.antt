@@ -1,43 +1,31 @@
 -- No two regions or orphans have the same number after a step.
-use Rattle.std.proofs.Common.{◌≡◌, ℕ, zero, suc, ◌≤◌, Bool, true, false, not, ◌||◌, nat_lt, List, [], ◌∷◌, length, All, refl, sym, subst, ltb-false, arith}
-use Rattle.std.specs.Prelude.{Option, Some, None, sum_by, if◌then◌else◌, ◌==◌, is_some}
-use Rattle.std.proofs.lemmas.Bool.{or_parts}
-use Rattle.std.proofs.lemmas.List.Elements.{All-head, All-tail}
-use Rattle.std.proofs.lemmas.List.Sums.{length-filter, count_by-le-length}
-use Rattle.genie_base.specs.Regions.{is_accessible}
+use Rattle.std.proofs.Common.{◌≡◌, ℕ, ◌≤◌, Bool, List, length, refl, sym, subst, arith}
+use Rattle.std.specs.Prelude.{Option, Some, None}
 use Rattle.genie_base.specs.Transfers.{class_of}
 use Rattle.genie_base.specs.declared.event.Event.{Event}
 use Rattle.genie_base.specs.declared.event.Event.TheVariants.{Spawn, Fork, Exit, Map, Alloc, Unmap, Protect, Read, Write, Output, Input, Send, Recv, Finish, Cancel, Pageout}
-use Rattle.genie_base.specs.declared.refusal.Refusal.{Refusal}
-use Rattle.genie_base.specs.declared.refusal.Refusal.TheVariants as cause
-use Rattle.genie_base.specs.declared.reply.Mark.{Mark}
-use Rattle.genie_base.specs.declared.reply.Mark.TheVariants as mark
 use Rattle.genie_base.specs.declared.region.RegionState.TheVariants.{Live}
 use Rattle.genie_base.specs.declared.semantics.Class.{Class}
 use Rattle.genie_base.specs.declared.semantics.Class.TheVariants.{Copy, Share, Move, WeakMove}
-use Rattle.genie_base.specs.declared.semantics.Direction.{Direction}
-use Rattle.genie_base.specs.declared.semantics.Direction.TheVariants.{Outward, Inward}
 use Rattle.genie_model.specs.Laws.{Stays}
 use Rattle.genie_model.specs.Orderly.{IsOrderly, NumbersDiffer, numbers}
-use Rattle.genie_model.specs.Refusing.{refuse, over_backing, accessible_pages}
-use Rattle.genie_model.specs.State.{State, Region, Process, Transfer}
-use Rattle.genie_model.specs.Tables.{entry}
-use Rattle.genie_model.specs.Regions.{regions_of, regions_at, is_alive, write_reach_of, reach_of, change_region, with_mode, with_state, place_in, put}
-use Rattle.genie_model.specs.Pending.{first_queued, pending, is_early_at, add_transfer}
+use Rattle.genie_model.specs.Refusing.{refuse}
+use Rattle.genie_model.specs.State.{State, Region, Transfer}
+use Rattle.genie_model.specs.Regions.{regions_at, reach_of, change_region, with_mode, with_state, place_in, put}
+use Rattle.genie_model.specs.Pending.{first_queued, pending, add_transfer}
 use Rattle.genie_model.specs.Space.{exit, remove, remove_found, region_from, protect_found, spawned, accessible, fork, stored, zeros, zeros_at_place}
 use Rattle.genie_model.specs.Outputs.{give_up, moved_out}
-use Rattle.genie_model.specs.Inputs.{moved_in, with_buffer, weak_buffer, reusable, pages_for, address_or_zero}
+use Rattle.genie_model.specs.Inputs.{moved_in, with_buffer, weak_buffer, reusable, pages_for}
 use Rattle.genie_model.specs.Sending.{must_stage, send_next}
 use Rattle.genie_model.specs.Receiving.{recv}
-use Rattle.genie_model.specs.Ending.{filled, after_landing, finish_copy, finish_share, finish_move, finish_weak_move, finish_input, finish_owned, finish_for, finish_found, cancel_found, without_transfer, region_of}
-use Rattle.genie_model.specs.Step.{answer, marked, accept, perform, failed, may_fail, uses_store, with_budget, step}
+use Rattle.genie_model.specs.Ending.{filled, finish_found, cancel_found, without_transfer, region_of}
+use Rattle.genie_model.specs.Step.{accept, perform, with_budget, step}
 use Rattle.genie_model.proofs.Accepted.{fork_accepted}
 use Rattle.genie_model.proofs.Arriving.{choice, recv_keeps}
 use Rattle.genie_model.proofs.Unused.{times, once_each, differ_from_once, few_numbers, few_numbers_beside, fresh_unused, no_longer}
 use Rattle.genie_model.proofs.Numbered.{Once, IsThere, added_once, copies_once, spawned_times, change_kept, out_kept, in_kept, put_kept, tidy_once, removed_times, at_there, region_there, exited_times}
 use Rattle.genie_model.proofs.Closing.{finish_for_keeps}
 use Rattle.genie_model.proofs.Stepping.{event_so}
-use Rattle.genie_model.proofs.Having.{at_entry}
 use Rattle.genie_model.proofs.Forking.{accessible_few}
 
 same_once : (s t : State) → numbers t ≡ numbers s → Once s → Once t

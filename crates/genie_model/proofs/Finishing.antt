@@ -5,23 +5,23 @@ use Rattle.std.specs.List.{list_any}
 use Rattle.std.proofs.lemmas.Bool.{cond_both}
 use Rattle.std.proofs.lemmas.List.{length-replicate}
 use Rattle.genie_base.proofs.Overlaid.{length-overlaid}
-use Rattle.genie_base.specs.declared.region.RegionState.TheVariants.{Live, Out}
+use Rattle.genie_base.specs.declared.region.RegionState.TheVariants.{Live}
 use Rattle.genie_base.specs.declared.semantics.Class.{Class}
 use Rattle.genie_base.specs.declared.semantics.Class.TheVariants.{Copy, Share, Move, WeakMove}
 use Rattle.genie_base.specs.declared.semantics.Direction.{Direction}
 use Rattle.genie_base.specs.declared.semantics.Direction.TheVariants.{Outward, Inward}
 use Rattle.genie_model.specs.State.{State, Region, Transfer}
-use Rattle.genie_model.specs.Regions.{is_region, region_numbered, place_in, write_reach_of, changed_in, change_region, with_state, put}
+use Rattle.genie_model.specs.Regions.{region_numbered, place_in, write_reach_of, changed_in, change_region, with_state, put}
 use Rattle.genie_model.specs.Pending.{is_early_at, is_numbered, is_just, pending}
-use Rattle.genie_model.specs.Outputs.{moved_out, give_up}
+use Rattle.genie_model.specs.Outputs.{give_up}
 use Rattle.genie_model.specs.Inputs.{address_or_zero}
 use Rattle.genie_model.specs.Ending.{without_transfer, region_of, finish_copy, filled, finish_move, finish_share, finish_weak_move, finish_input, finish_owned, finish_for, finish_found, cancel_found}
 use Rattle.genie_model.specs.Orderly.{moves_into, NumbersDiffer}
-use Rattle.genie_model.proofs.Having.{Has, find_has}
-use Rattle.genie_model.proofs.Finding.{all_of, region_found, number_has}
+use Rattle.genie_model.proofs.Having.{Has}
+use Rattle.genie_model.proofs.Finding.{all_of, number_has}
 use Rattle.genie_model.proofs.Changing.{InPlace, in_place_by}
 use Rattle.genie_model.proofs.Naming.{stand_without, none_left}
-use Rattle.genie_model.proofs.Staying.{Stands, put_stands, state_stands, remove_stands, live_place, moved_out_place, give_up_stands}
+use Rattle.genie_model.proofs.Staying.{Stands, put_stands, state_stands, live_place, give_up_stands}
 
 pub named_region : (s : State) (named : Option ℕ) (r : Region) → option_and_then (region_numbered s) named ≡ Some r → Has r (all_of s.processes) × (is_just named r.number ≡ true)
 named_region s None r e = absurd (cc)

@@ -1,17 +1,17 @@
 -- Copies of regions, one after the other.
-use Rattle.std.proofs.Common.{◌≡◌, ℕ, zero, suc, ◌+◌, ◌<◌, ◌≤◌, true, false, List, [], ◌∷◌, length, drop, get_or, add-one, refl, sym, ap, ◌∙◌, arith, Bool}
-use Rattle.std.specs.Prelude.{Option, Some, None, cond, map, nat_le, slice_set}
+use Rattle.std.proofs.Common.{◌≡◌, ℕ, ◌+◌, ◌<◌, ◌≤◌, List, [], ◌∷◌, length, drop, get_or, add-one, refl, sym, ap, ◌∙◌, arith, Bool}
+use Rattle.std.specs.Prelude.{Option, Some, None, map}
 use Rattle.std.proofs.Math.Seq.{drop-cons}
-use Rattle.genie_base.specs.Regions.{add_in_order, is_accessible}
+use Rattle.std.proofs.lemmas.List.Sums.{length-filter, count_by-le-length}
+use Rattle.genie_base.specs.Regions.{is_accessible}
 use Rattle.genie_base.specs.declared.region.RegionState.TheVariants.{Live}
 use Rattle.genie_model.specs.State.{State, Region, Process}
 use Rattle.genie_model.specs.Regions.{extent_of, regions_of, regions_at, change_process, with_state}
 use Rattle.genie_model.specs.Space.{with_region, add_region, copy_of, add_copies, accessible}
 use Rattle.genie_model.specs.Tables.{entry}
+use Rattle.genie_model.specs.Orderly.{RegionsAreApart}
 use Rattle.genie_model.proofs.Having.{entry_set, at_entry}
 use Rattle.genie_model.proofs.Apart.{length_added}
-use Rattle.genie_model.specs.Orderly.{RegionsAreApart}
-use Rattle.std.proofs.lemmas.List.Sums.{length-filter, count_by-le-length}
 
 -- a copy of a live copy is a copy
 pub copies_live : (s : State) (q : ℕ) (regions : List Region) → add_copies s q (map (with_state Live) regions) ≡ add_copies s q regions

@@ -1,34 +1,24 @@
 -- Devices stay what they are; what a step adds to what was sent, and which mark its reply shows.
-use Rattle.std.proofs.Common.{◌≡◌, ℕ, zero, suc, ◌+◌, ◌≤◌, Bool, true, false, List, [], ◌∷◌, ◌++◌, append-nil, refl, sym, ap, ◌∙◌, arith, subst}
-use Rattle.std.specs.Prelude.{Option, Some, None, slice_set, ◌==◌, if◌then◌else◌}
+use Rattle.std.proofs.Common.{◌≡◌, ℕ, ◌+◌, ◌≤◌, List, [], ◌++◌, append-nil, refl, sym, ap, ◌∙◌, arith, subst}
+use Rattle.std.specs.Prelude.{Option, Some, None}
 use Rattle.genie_base.specs.Events.{mark_of}
 use Rattle.genie_base.specs.Transfers.{class_of}
 use Rattle.genie_base.specs.declared.event.Event.{Event}
-use Rattle.genie_base.specs.declared.event.Event.TheVariants.{Spawn, Fork, Exit, Map, Alloc, Unmap, Protect, Read, Write, Output, Input, Send, Recv, Finish, Cancel, Pageout}
+use Rattle.genie_base.specs.declared.event.Event.TheVariants.{Fork, Unmap, Protect, Write, Output, Input, Send, Recv, Finish, Cancel}
 use Rattle.genie_base.specs.declared.refusal.Refusal.{Refusal}
-use Rattle.genie_base.specs.declared.reply.Mark.{Mark}
 use Rattle.genie_base.specs.declared.reply.Mark.TheVariants as mark
-use Rattle.genie_base.specs.declared.reply.Reply.{Reply}
-use Rattle.genie_base.specs.declared.reply.Reply.TheVariants as reply
-use Rattle.genie_base.specs.declared.semantics.Class.{Class}
-use Rattle.genie_base.specs.declared.semantics.Class.TheVariants.{Copy, Share, Move, WeakMove}
-use Rattle.genie_base.specs.declared.semantics.Direction.{Direction}
-use Rattle.genie_base.specs.declared.semantics.Direction.TheVariants.{Outward, Inward}
 use Rattle.genie_model.specs.Flat.{sent_by, sent_of}
 use Rattle.genie_model.specs.Laws.{Grows, StepsGrow, PlainStepsShowNoFault, Stays}
 use Rattle.genie_model.specs.Orderly.{shape_of, DevicesAreConfigs}
 use Rattle.genie_model.specs.Refusing.{refuse}
-use Rattle.genie_model.specs.State.{State, Region, Transfer, Device}
+use Rattle.genie_model.specs.State.{State, Transfer, Device}
 use Rattle.genie_model.specs.Tables.{entry}
-use Rattle.genie_model.specs.Regions.{reach_of, write_reach_of, regions_at, put}
-use Rattle.genie_model.specs.Pending.{first_queued, pending, is_early_at, add_transfer}
-use Rattle.genie_model.specs.Space.{remove_found, region_from, protect_found, add_copies, add_region, copy_of, spawned, accessible, fork, stored}
-use Rattle.genie_model.specs.Outputs.{give_up}
-use Rattle.genie_model.specs.Inputs.{with_buffer, weak_buffer, reusable, pages_for, address_or_zero}
+use Rattle.genie_model.specs.Regions.{reach_of, regions_at}
+use Rattle.genie_model.specs.Pending.{first_queued, pending, add_transfer}
+use Rattle.genie_model.specs.Space.{region_from, spawned, accessible}
 use Rattle.genie_model.specs.Sending.{change_device, with_sent, next_part, send_count, must_stage, send_next}
-use Rattle.genie_model.specs.Receiving.{recv}
-use Rattle.genie_model.specs.Ending.{finish_copy, finish_share, finish_move, finish_weak_move, finish_input, finish_owned, finish_for, finish_found, cancel_found, without_transfer, region_of}
-use Rattle.genie_model.specs.Step.{Outcome, answer, marked, accept, perform, failed, may_fail, uses_store, with_budget}
+use Rattle.genie_model.specs.Ending.{finish_found, cancel_found, without_transfer, region_of}
+use Rattle.genie_model.specs.Step.{answer, accept, perform}
 use Rattle.genie_model.proofs.Keeping.{call_of, with_call, accept_did, steps_keep_config}
 use Rattle.genie_model.proofs.Quiet.{table_shapes, recv_quiet}
 use Rattle.genie_model.proofs.Arriving.{choice}

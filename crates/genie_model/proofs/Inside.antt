@@ -1,18 +1,18 @@
 -- A byte in a place where others are stored is the new one for that place, or stays.
-use Rattle.std.proofs.Common.{◌≡◌, ℕ, zero, suc, ◌+◌, ◌-◌, ◌<◌, true, false, ◌&&◌, ◌⊎◌, inl, inr, ⊎_elim, List, [], ◌∷◌, length, map, find, get_or, All, AllPairs, refl, sym, ap, subst, ◌∙◌, eqb-true, eq-eqb, true≢false, arith}
+use Rattle.std.proofs.Common.{◌≡◌, ℕ, zero, suc, ◌+◌, ◌-◌, ◌<◌, true, false, ◌&&◌, ◌⊎◌, inl, inr, ⊎_elim, List, [], ◌∷◌, length, map, get_or, All, AllPairs, refl, sym, ap, subst, ◌∙◌, eqb-true, eq-eqb, true≢false, arith}
 use Rattle.std.specs.Prelude.{Option, Some, None, slice_index, nat_le, nat_lt, ◌==◌}
 use Rattle.std.specs.Option.{option_map}
-use Rattle.std.proofs.lemmas.Bool.{cases_Bool, cases_lt, cond_both}
+use Rattle.std.proofs.lemmas.Bool.{cases_Bool, cases_lt}
 use Rattle.std.proofs.lemmas.Bool.Decides.{nat_tests}
 use Rattle.std.proofs.lemmas.List.Elements.{All-tail, All-map}
 use Rattle.genie_base.specs.Bytes.{overlaid, part}
 use Rattle.genie_model.specs.State.{State, Region, Orphan}
 use Rattle.genie_model.specs.Orderly.{OrphanPlacesRise}
-use Rattle.genie_model.specs.Regions.{is_region, is_orphan, region_numbered, orphan_numbered, is_within_range, bytes_within, orphan_part, region_part, bytes_of, changed, with_bytes, stored_at, stored_in_orphan, put}
+use Rattle.genie_model.specs.Regions.{is_orphan, region_numbered, orphan_numbered, is_within_range, bytes_within, orphan_part, region_part, bytes_of, changed, with_bytes, stored_at, stored_in_orphan, put}
 use Rattle.genie_model.proofs.Beside.{IsOutside, put_beside}
 use Rattle.genie_model.proofs.Changing.{place_found, put_orphan, put_in_place}
-use Rattle.genie_model.proofs.Finding.{all_of, region_found, number_has}
-use Rattle.genie_model.proofs.Having.{all_has, find_has, find_map, pairs_tail}
+use Rattle.genie_model.proofs.Finding.{number_has}
+use Rattle.genie_model.proofs.Having.{all_has, find_has, pairs_tail}
 use Rattle.genie_model.proofs.Ordered.{stored_place}
 
 part_one : (i : ℕ) (bytes : List ℕ) → i < length bytes → part i 1 bytes ≡ slice_index bytes i ∷ []

@@ -1,13 +1,10 @@
 -- What a step keeps: the configuration, and the transfers but those that end or that a call adds.
-use Rattle.std.proofs.Common.{◌≡◌, ℕ, ◌+◌, Bool, true, false, List, [], ◌∷◌, ◌++◌, ◌&&◌, refl, ap, sym, subst, ◌∙◌}
+use Rattle.std.proofs.Common.{◌≡◌, ℕ, ◌+◌, Bool, false, List, [], ◌∷◌, ◌&&◌, refl, ap, sym, subst, ◌∙◌}
 use Rattle.std.proofs.lemmas.Bool.{cond_both}
-use Rattle.std.specs.Prelude.{Option, Some, None, take, drop, filter, not, nat_le, nat_lt, ◌==◌, if◌then◌else◌, ⊤}
-use Rattle.genie_base.specs.Configs.{most}
-use Rattle.genie_base.specs.Headers.{header_taken, is_whole_header, is_valid_header, port_in, flow_in}
+use Rattle.std.specs.Prelude.{Option, Some, None, filter, not, nat_le, nat_lt, ◌==◌, if◌then◌else◌, ⊤}
 use Rattle.genie_base.specs.Transfers.{class_of, is_strong}
 use Rattle.genie_base.specs.declared.event.Event.{Event}
 use Rattle.genie_base.specs.declared.event.Event.TheVariants.{Fork, Exit, Unmap, Protect, Write, Output, Input, Send, Recv, Finish, Cancel}
-use Rattle.genie_base.specs.declared.refusal.Refusal.{Refusal}
 use Rattle.genie_base.specs.declared.reply.Mark.{Mark}
 use Rattle.genie_base.specs.declared.reply.Mark.TheVariants as mark
 use Rattle.genie_base.specs.declared.reply.Reply.{Reply}
@@ -16,27 +13,23 @@ use Rattle.genie_base.specs.declared.semantics.Class.{Class}
 use Rattle.genie_base.specs.declared.semantics.Class.TheVariants.{Copy, Share, Move, WeakMove}
 use Rattle.genie_base.specs.declared.semantics.Direction.{Direction}
 use Rattle.genie_base.specs.declared.semantics.Direction.TheVariants.{Outward, Inward}
-use Rattle.genie_model.specs.declared.datagram.Fate.{Fate}
-use Rattle.genie_model.specs.declared.datagram.Fate.TheVariants.{Matched, Skipped, Gathering}
-use Rattle.genie_model.specs.declared.phase.Phase.TheVariants.{Moving}
-use Rattle.genie_model.specs.State.{State, Region, Transfer, Device, Datagram}
-use Rattle.genie_model.specs.Tables.{entry}
-use Rattle.genie_model.specs.Regions.{reach_of, write_reach_of, regions_at, put}
-use Rattle.genie_model.specs.Pending.{first_queued, first_posted, pending, is_early, is_early_at, is_just, is_numbered, waits_for, add_transfer}
-use Rattle.genie_model.specs.Space.{Outcome, remove_found, region_from, protect_found, add_copies, add_region, copy_of, spawned, accessible, fork, stored, is_move, disowned, is_posted_by, exit}
-use Rattle.genie_model.specs.Outputs.{output_of, give_up}
-use Rattle.genie_model.specs.Inputs.{posted, with_buffer, weak_buffer, reusable, pages_for, address_or_zero}
+use Rattle.genie_base.specs.Events.{mark_of}
+use Rattle.genie_model.specs.State.{State, Region, Transfer}
+use Rattle.genie_model.specs.Regions.{reach_of, write_reach_of, regions_at}
+use Rattle.genie_model.specs.Pending.{first_queued, pending, is_just, is_numbered, waits_for, add_transfer}
+use Rattle.genie_model.specs.Space.{Outcome, region_from, spawned, accessible, is_move, disowned, is_posted_by, exit}
+use Rattle.genie_model.specs.Outputs.{output_of}
+use Rattle.genie_model.specs.Inputs.{posted, address_or_zero}
 use Rattle.genie_model.specs.Sending.{after_sending, must_stage, unsent, send_next}
-use Rattle.genie_model.specs.Receiving.{set_device, is_busy, with_phase, with_datagram, gathered, after_receiving, change_transfer, deliver, complete, landing, landed, land_in, land, after_bytes, go_on, take_payload, datagram, match_header, begin_datagram, read_header, take_header, receive_record, receive, recv}
-use Rattle.genie_model.specs.Ending.{after_landing, finish_copy, finish_share, finish_move, finish_weak_move, finish_input, finish_owned, finish_for, finish_found, cancel_found, without_transfer, region_of}
+use Rattle.genie_model.specs.Receiving.{change_transfer, recv}
+use Rattle.genie_model.specs.Ending.{finish_copy, finish_share, finish_move, finish_weak_move, finish_input, finish_owned, finish_for, finish_found, cancel_found, without_transfer, region_of}
 use Rattle.genie_model.specs.Laws.{is_refused, id_of, StepsKeepConfig}
 use Rattle.genie_model.specs.Refusing.{refuse}
-use Rattle.genie_model.specs.Step.{answer, marked, accept, perform, failed, may_fail, uses_store, with_budget, step}
+use Rattle.genie_model.specs.Step.{accept, perform, with_budget, step}
 use Rattle.genie_model.proofs.Remaining.{Same, Remain, alike, same, same_choice, remain, remain_later, change_remain, without_remain, filter_remain, map_remain}
 use Rattle.genie_model.proofs.Arriving.{recv_does}
 use Rattle.genie_model.proofs.Aside.{SameBut, copies_like, remove_like, protect_like, stored_like, given_up_like, buffer_like, finish_for_like}
 use Rattle.genie_model.proofs.Stepping.{event_so}
-use Rattle.genie_base.specs.Events.{mark_of}
 
 -- no call is accepted between these states
 pub record Keeps (s t : State) : Type 0 where

@@ -1,19 +1,14 @@
 -- What transfers name stays there in the steps of devices.
-use Rattle.std.proofs.Common.{◌≡◌, ℕ, ◌+◌, Bool, true, false, List, [], ◌++◌, take, drop, refl, sym, ap, subst}
-use Rattle.std.specs.Prelude.{Option, Some, None, ◌==◌, if◌then◌else◌}
+use Rattle.std.proofs.Common.{◌≡◌, ℕ, ◌+◌, List, [], refl, sym, ap, subst}
+use Rattle.std.specs.Prelude.{Option, Some, None, ◌==◌}
 use Rattle.std.proofs.lemmas.Bool.{cond_both}
-use Rattle.genie_base.specs.Configs.{most}
-use Rattle.genie_base.specs.Headers.{header_taken, is_whole_header, is_valid_header, port_in, flow_in}
 use Rattle.genie_base.specs.declared.reply.Reply.TheVariants as reply
-use Rattle.genie_model.specs.declared.datagram.Fate.{Fate}
-use Rattle.genie_model.specs.declared.datagram.Fate.TheVariants.{Matched, Skipped, Gathering}
-use Rattle.genie_model.specs.declared.phase.Phase.TheVariants.{Moving, Ready}
-use Rattle.genie_model.specs.State.{State, Transfer, Device, Datagram}
-use Rattle.genie_model.specs.Tables.{change, entry}
-use Rattle.genie_model.specs.Pending.{is_early, is_numbered, pending, first_posted, first_queued, waits_for}
-use Rattle.genie_model.specs.Space.{Outcome}
+use Rattle.genie_model.specs.declared.phase.Phase.TheVariants.{Ready}
+use Rattle.genie_model.specs.State.{State, Transfer}
+use Rattle.genie_model.specs.Tables.{change}
+use Rattle.genie_model.specs.Pending.{is_numbered, first_queued, waits_for}
 use Rattle.genie_model.specs.Sending.{unsent, after_sending, send_bytes, must_stage, staged_now, after_staging, stage_bytes, stage_count, send_count, send_next, send}
-use Rattle.genie_model.specs.Receiving.{set_device, is_busy, with_phase, with_datagram, gathered, change_transfer, deliver, complete, fitting, after_receiving, landing, landed, land_in, land, after_bytes, go_on, take_payload, datagram, skipped, match_header, begin_datagram, read_header, take_header, receive_record, receive, recv}
+use Rattle.genie_model.specs.Receiving.{change_transfer, recv}
 use Rattle.genie_model.proofs.Standing.{Fine, Stand}
 use Rattle.genie_model.proofs.Naming.{stand_change}
 use Rattle.genie_model.proofs.Staying.{Stands, put_stands}

@@ -1,6 +1,6 @@
 -- Every event but those that store bytes leaves a byte that a pending weak transfer covers.
-use Rattle.std.proofs.Common.{◌≡◌, ℕ, zero, suc, ◌+◌, ◌<◌, Bool, true, false, not, ◌&&◌, ◌||◌, ◌==◌, ◌⊎◌, inl, inr, ⊎_elim, List, [], ◌∷◌, ◌++◌, map, filter, find, AllPairs, ◌≢◌, refl, sym, ap, subst, ◌∙◌, eqb-true, eq-eqb, ne_eqb, true≢false, arith}
-use Rattle.std.specs.Prelude.{Option, Some, None, IsTrue, ⊤, nat_le, nat_lt, sum_by, option_and_then, is_some}
+use Rattle.std.proofs.Common.{◌≡◌, ℕ, zero, suc, ◌+◌, ◌<◌, Bool, true, false, not, ◌&&◌, ◌==◌, ◌⊎◌, inl, inr, ⊎_elim, List, [], ◌∷◌, ◌++◌, map, filter, find, AllPairs, ◌≢◌, refl, sym, ap, subst, ◌∙◌, eqb-true, eq-eqb, ne_eqb, true≢false, arith}
+use Rattle.std.specs.Prelude.{Option, Some, None, IsTrue, ⊤, nat_le, nat_lt, option_and_then}
 use Rattle.std.specs.List.{list_any}
 use Rattle.std.proofs.lemmas.Bool.{cases_Bool, cond_both, and_parts}
 use Rattle.std.proofs.lemmas.Bool.Decides.{nat_tests}
@@ -11,8 +11,6 @@ use Rattle.genie_base.specs.Regions.{is_reached, add_in_order}
 use Rattle.genie_base.specs.Transfers.{class_of, is_strong}
 use Rattle.genie_base.specs.declared.event.Event.{Event}
 use Rattle.genie_base.specs.declared.event.Event.TheVariants.{Spawn, Fork, Exit, Map, Alloc, Unmap, Protect, Read, Write, Output, Input, Send, Recv, Finish, Cancel, Pageout}
-use Rattle.genie_base.specs.declared.refusal.Refusal.{Refusal}
-use Rattle.genie_base.specs.declared.refusal.Refusal.TheVariants as cause
 use Rattle.genie_base.specs.declared.region.Area.TheVariants.{App}
 use Rattle.genie_base.specs.declared.region.RegionState.TheVariants.{Live, In, Out, Held}
 use Rattle.genie_base.specs.declared.reply.Mark.{Mark}
@@ -23,8 +21,8 @@ use Rattle.genie_model.specs.Inputs.{pages_for, reusable, moved_in_of, weak_buff
 use Rattle.genie_model.specs.Orderly.{LiesInRegion, LiesInOrphan, Lies, orphan_numbers, NumbersDiffer, IsOrderly}
 use Rattle.genie_model.specs.Outputs.{output_of, moved_out_of, give_up}
 use Rattle.genie_model.specs.Pending.{is_just, names, names_weakly, covers, first_queued, pending, add_transfer}
-use Rattle.genie_model.specs.Refusing.{over_backing, accessible_pages, refuse}
-use Rattle.genie_model.specs.Regions.{extent_of, regions_of, regions_at, is_alive, reach_of, is_region, has_number, region_numbered, is_orphan, orphan_numbered, is_within_range, byte_within, bytes_within, orphan_part, region_part, bytes_of, change_process, changed, changed_in, with_state, with_mode}
+use Rattle.genie_model.specs.Refusing.{refuse}
+use Rattle.genie_model.specs.Regions.{extent_of, regions_of, regions_at, reach_of, is_region, has_number, region_numbered, is_orphan, orphan_numbered, is_within_range, byte_within, bytes_within, orphan_part, region_part, bytes_of, change_process, changed, changed_in, with_state, with_mode}
 use Rattle.genie_model.specs.Sending.{must_stage, send_next}
 use Rattle.genie_model.specs.Space.{spawned, with_region, add_region, zeros, zeros_at_place, placed, as_orphan, add_orphan, without_region, remove, remove_found, cut, is_named, tidy, starts_at, region_from, protect_found, accessible, copy_of, add_copies, add_orphans, exit}
 use Rattle.genie_model.specs.State.{State, Region, Orphan, Process, Transfer}
@@ -34,7 +32,7 @@ use Rattle.genie_model.proofs.Among.{Among, among_has, has_among, among_left, am
 use Rattle.genie_model.proofs.Arriving.{choice}
 use Rattle.genie_model.proofs.Accepted.{spawn_accepted, fork_accepted}
 use Rattle.genie_model.proofs.Distinct.{numbers_differ}
-use Rattle.genie_model.proofs.Finding.{all_of, region_found, has_region, differ, numbers_in, only_region, no_orphan, number_has, found_at}
+use Rattle.genie_model.proofs.Finding.{all_of, has_region, differ, numbers_in, no_orphan, number_has, found_at}
 use Rattle.genie_model.proofs.Having.{Has, all_has, any_has, has_any, find_has, has_map, has_either, pairs_head, pairs_tail, pairs_right}
 use Rattle.genie_model.proofs.Stepping.{event_so}
 

@@ -8,12 +8,12 @@ use Rattle.std.proofs.lemmas.List.Elements.{All-map, All-filter}
 use Rattle.genie_base.specs.declared.semantics.Class.{Class}
 use Rattle.genie_base.specs.declared.semantics.Class.TheVariants.{Copy, Share, Move, WeakMove}
 use Rattle.genie_model.specs.State.{State, Region, Process, Transfer}
-use Rattle.genie_model.specs.Regions.{regions_of, regions_at, is_region, is_orphan, region_numbered}
+use Rattle.genie_model.specs.Regions.{regions_of, regions_at, is_region, region_numbered}
 use Rattle.genie_model.specs.Pending.{is_just, names}
 use Rattle.genie_model.specs.Space.{exit, is_move, disowned, is_posted_by}
 use Rattle.genie_model.specs.Orderly.{holds, orphan_numbers, NumbersDiffer, moves_into}
 use Rattle.genie_model.proofs.Having.{Has, has_left, has_right, has_either, or_next, find_append, find_has, any_found, find_none, pairs_right, pairs_beside, entry_set}
-use Rattle.genie_model.proofs.Finding.{all_of, region_found, has_region, splits, find_middle, Differ, numbers_in, differ, only_region, no_orphan, orphans_beside, orphans_from, found_at, no_orphan_at}
+use Rattle.genie_model.proofs.Finding.{all_of, region_found, has_region, splits, find_middle, Differ, numbers_in, differ, only_region, orphans_beside, orphans_from, found_at, no_orphan_at}
 use Rattle.genie_model.proofs.Standing.{Holds, KeepsLies, Fine, fine_stays, held_region, Stand}
 use Rattle.genie_model.proofs.Changing.{holds_it, lies_in_orphan}
 use Rattle.genie_model.proofs.Naming.{any_kept, count_kept, fewer, fine_in}

@@ -1,19 +1,18 @@
 -- A receive step leaves the transfers that wait for a device to send, since what it receives meets others.
 use Rattle.std.proofs.Common.{◌≡◌, ℕ, ◌+◌, ◌<◌, Bool, true, false, List, [], ◌++◌, refl, sym, subst, ◌∙◌, eqb-true}
-use Rattle.std.specs.Prelude.{Option, Some, None, ⊤, find, take, drop, ◌==◌, if◌then◌else◌}
+use Rattle.std.specs.Prelude.{Option, Some, None, ⊤, find, take, drop, ◌==◌}
 use Rattle.std.specs.Option.{option_map}
 use Rattle.std.specs.List.{list_any}
 use Rattle.std.proofs.lemmas.Bool.{cond_both, and_left, and_parts}
 use Rattle.genie_base.specs.Configs.{DeviceConfig, most}
 use Rattle.genie_base.specs.Headers.{header_taken, is_whole_header, is_valid_header, port_in, flow_in, len_in}
 use Rattle.genie_model.specs.declared.phase.Phase.{Phase}
-use Rattle.genie_model.specs.declared.phase.Phase.TheVariants.{Queued, Posted, Moving, Ready}
+use Rattle.genie_model.specs.declared.phase.Phase.TheVariants.{Queued, Moving}
 use Rattle.genie_model.specs.State.{State, Transfer, Device, Datagram}
 use Rattle.genie_model.specs.declared.datagram.Fate.{Fate}
 use Rattle.genie_model.specs.declared.datagram.Fate.TheVariants.{Matched, Skipped, Gathering}
 use Rattle.genie_model.specs.Tables.{entry}
 use Rattle.genie_model.specs.Pending.{is_queued, is_posted, is_early, is_numbered, waits_for, awaits, pending, first_posted}
-use Rattle.genie_model.specs.Space.{Outcome}
 use Rattle.genie_model.specs.Sending.{change_device}
 use Rattle.genie_model.specs.Refusing.{has_output}
 use Rattle.genie_model.specs.Receiving.{receiving, set_device, is_busy, with_phase, with_datagram, gathered, after_receiving, change_transfer, deliver, complete, landing, landed, land_in, land, after_bytes, go_on, take_payload, datagram, skipped, match_header, begin_datagram, take_header, receive_record, receive, recv}

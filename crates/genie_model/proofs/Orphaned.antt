@@ -1,22 +1,19 @@
 -- What orphans have in common, also where one comes and where bytes are stored, they have after each accepted event.
 use Rattle.std.proofs.Common.{ℕ, Bool, List, [], ◌∷◌, map}
 use Rattle.std.specs.Prelude.{Option, Some, None}
-use Rattle.std.proofs.lemmas.Bool.{cond_both}
 use Rattle.genie_base.specs.Transfers.{class_of}
 use Rattle.genie_base.specs.declared.event.Event.{Event}
 use Rattle.genie_base.specs.declared.event.Event.TheVariants.{Fork, Exit, Unmap, Protect, Write, Output, Input, Send, Recv, Finish, Cancel}
 use Rattle.genie_base.specs.declared.semantics.Class.{Class}
-use Rattle.genie_base.specs.declared.semantics.Class.TheVariants.{Copy, Move, WeakMove}
-use Rattle.genie_base.specs.declared.semantics.Direction.{Direction}
-use Rattle.genie_base.specs.declared.semantics.Direction.TheVariants.{Outward, Inward}
+use Rattle.genie_base.specs.declared.semantics.Class.TheVariants.{Move, WeakMove}
 use Rattle.genie_model.specs.State.{State, Region, Orphan, Transfer}
-use Rattle.genie_model.specs.Regions.{regions_at, reach_of, write_reach_of, stored_in_orphan, put}
-use Rattle.genie_model.specs.Pending.{is_early_at, first_queued, pending}
+use Rattle.genie_model.specs.Regions.{regions_at, reach_of, stored_in_orphan}
+use Rattle.genie_model.specs.Pending.{first_queued, pending}
 use Rattle.genie_model.specs.Space.{add_orphan, add_orphans, add_region, copy_of, add_copies, accessible, spawned, remove_found, region_from, protect_found, stored}
 use Rattle.genie_model.specs.Outputs.{give_up}
-use Rattle.genie_model.specs.Inputs.{with_buffer, weak_buffer, reusable, pages_for, address_or_zero}
+use Rattle.genie_model.specs.Inputs.{with_buffer, weak_buffer, reusable, pages_for}
 use Rattle.genie_model.specs.Sending.{must_stage, send_next}
-use Rattle.genie_model.specs.Ending.{without_transfer, region_of, finish_copy, finish_share, finish_move, finish_weak_move, finish_input, finish_owned, finish_for, finish_found, after_landing, cancel_found}
+use Rattle.genie_model.specs.Ending.{without_transfer, region_of, finish_found, cancel_found}
 use Rattle.genie_model.specs.Step.{perform}
 use Rattle.genie_model.proofs.Arriving.{choice, recv_keeps}
 use Rattle.genie_model.proofs.Closing.{finish_for_keeps}

@@ -2,9 +2,6 @@
 use Rattle.std.proofs.Common.{◌≡◌, ◌≢◌, ℕ, true, refl, sym, subst, true≢false}
 use Rattle.std.specs.Prelude.{Option, Some, None, IsTrue, option_and_then, is_some}
 use Rattle.genie_base.specs.declared.event.Event.TheVariants.{Finish}
-use Rattle.genie_base.specs.declared.refusal.Refusal.{Refusal}
-use Rattle.genie_base.specs.declared.reply.Mark.{Mark}
-use Rattle.genie_base.specs.declared.reply.Mark.TheVariants as mark
 use Rattle.genie_base.specs.declared.reply.Reply.TheVariants as reply
 use Rattle.genie_base.specs.declared.semantics.Class.TheVariants.{Move}
 use Rattle.genie_base.specs.declared.semantics.Direction.{Direction}
@@ -13,10 +10,8 @@ use Rattle.genie_model.specs.Ending.{without_transfer, region_of, finish_move, f
 use Rattle.genie_model.specs.Laws.{MovesAreNotLost}
 use Rattle.genie_model.specs.Orderly.{LiesInRegion, IsOrderly}
 use Rattle.genie_model.specs.Pending.{is_inward, is_numbered, pending}
-use Rattle.genie_model.specs.Refusing.{refuse}
 use Rattle.genie_model.specs.Regions.{region_numbered}
 use Rattle.genie_model.specs.State.{State, Region, Transfer}
-use Rattle.genie_model.specs.Step.{answer}
 use Rattle.genie_model.proofs.Having.{all_has, find_has}
 use Rattle.genie_model.proofs.Naming.{fine_in}
 use Rattle.genie_model.proofs.Standing.{Fine, orderly_stand}

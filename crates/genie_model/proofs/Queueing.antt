@@ -1,5 +1,5 @@
 -- What each event does to the transfers that wait for a device, and to what it receives.
-use Rattle.std.proofs.Common.{◌≡◌, ℕ, zero, suc, ◌+◌, ◌≤◌, Bool, true, false, not, ◌&&◌, ◌==◌, ⊎_elim, List, [], ◌∷◌, ◌++◌, length, map, filter, get_or, append-nil, ◌≢◌, refl, sym, ap, subst, ◌∙◌, eqb-true, ne_eqb, true≢false, arith}
+use Rattle.std.proofs.Common.{◌≡◌, ℕ, ◌+◌, ◌≤◌, Bool, true, false, not, ◌==◌, ⊎_elim, List, [], ◌∷◌, ◌++◌, length, map, filter, append-nil, ◌≢◌, refl, sym, ap, subst, ◌∙◌, eqb-true, ne_eqb, true≢false, arith}
 use Rattle.std.specs.Prelude.{Option, Some, None, ⊤, slice_set, drop, if◌then◌else◌, is_some}
 use Rattle.std.proofs.lemmas.Bool.{cases_Bool, cases_eq, cond_both, cond-true, cond-false, and_left, and_right, and_parts, not-false}
 use Rattle.std.proofs.lemmas.List.{length-take-le, length-drop}
@@ -12,12 +12,9 @@ use Rattle.genie_base.specs.declared.event.Event.TheVariants.{Fork, Exit, Unmap,
 use Rattle.genie_base.specs.declared.refusal.Refusal.{Refusal}
 use Rattle.genie_base.specs.declared.refusal.Refusal.TheVariants.{Proc}
 use Rattle.genie_base.specs.declared.reply.Mark.{Mark}
-use Rattle.genie_base.specs.declared.reply.Mark.TheVariants as mark
 use Rattle.genie_base.specs.declared.reply.Reply.TheVariants as reply
 use Rattle.genie_base.specs.declared.semantics.Class.{Class}
 use Rattle.genie_base.specs.declared.semantics.Class.TheVariants.{Copy, Share, Move, WeakMove}
-use Rattle.genie_base.specs.declared.semantics.Direction.{Direction}
-use Rattle.genie_base.specs.declared.semantics.Direction.TheVariants.{Outward, Inward}
 use Rattle.genie_model.specs.Flat.{sent_by, sent_of}
 use Rattle.genie_model.specs.declared.datagram.Fate.{Fate}
 use Rattle.genie_model.specs.declared.datagram.Fate.TheVariants.{Matched, Skipped, Gathering}
@@ -25,18 +22,18 @@ use Rattle.genie_model.specs.declared.phase.Phase.{Phase}
 use Rattle.genie_model.specs.declared.phase.Phase.TheVariants.{Queued}
 use Rattle.genie_model.specs.State.{State, Region, Transfer, Device, Datagram}
 use Rattle.genie_model.specs.Tables.{without, entry}
-use Rattle.genie_model.specs.Regions.{place_in, reach_of, write_reach_of, regions_at, put}
-use Rattle.genie_model.specs.Pending.{is_queued, is_posted, is_ready, is_just, is_early_at, is_numbered, pending, waits_for, first_queued, add_transfer}
-use Rattle.genie_model.specs.Refusing.{has_output, is_finished, may_cancel, causes, first_cause, refuse}
-use Rattle.genie_model.specs.Space.{Outcome, remove_found, region_from, protect_found, add_copies, add_region, copy_of, spawned, accessible, stored, bytes_reached, is_move, disowned, is_posted_by, exit}
+use Rattle.genie_model.specs.Regions.{place_in, reach_of, regions_at}
+use Rattle.genie_model.specs.Pending.{is_queued, is_posted, is_ready, is_just, is_numbered, pending, waits_for, first_queued, add_transfer}
+use Rattle.genie_model.specs.Refusing.{has_output, is_finished, may_cancel, causes, refuse}
+use Rattle.genie_model.specs.Space.{Outcome, region_from, spawned, accessible, bytes_reached, is_move, disowned, is_posted_by, exit}
 use Rattle.genie_model.specs.Outputs.{place_reached, number_of, output_of, give_up}
-use Rattle.genie_model.specs.Inputs.{posted, with_buffer, weak_buffer, reusable, pages_for, address_or_zero}
+use Rattle.genie_model.specs.Inputs.{posted, with_buffer}
 use Rattle.genie_model.specs.Sending.{unsent, after_sending, change_device, with_sent, must_stage, stage_bytes, send_bytes, stage_count, send_count, send_next}
 use Rattle.genie_model.specs.Receiving.{recv}
-use Rattle.genie_model.specs.Ending.{after_landing, finish_copy, finish_share, finish_move, finish_weak_move, finish_input, finish_owned, finish_for, finish_found, cancel_found, without_transfer, region_of}
+use Rattle.genie_model.specs.Ending.{finish_found, cancel_found, without_transfer, region_of}
 use Rattle.genie_model.specs.Orderly.{IsOrderly}
 use Rattle.genie_model.specs.Integrity.{Accepted, accepted, WasThere}
-use Rattle.genie_model.specs.Step.{answer, marked, accept, perform, failed, may_fail, uses_store, step}
+use Rattle.genie_model.specs.Step.{accept, perform, failed, may_fail, step}
 use Rattle.genie_model.proofs.Causes.{none_holds, second_holds}
 use Rattle.genie_model.proofs.Having.{entry_set}
 use Rattle.genie_model.proofs.Quiet.{recv_quiet}

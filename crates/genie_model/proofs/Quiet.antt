@@ -1,22 +1,12 @@
 -- A receive step leaves each device what it is, and sends nothing.
-use Rattle.std.proofs.Common.{◌≡◌, ℕ, zero, suc, ◌+◌, Bool, true, false, List, [], ◌∷◌, ◌++◌, refl, sym, ap, ◌∙◌}
-use Rattle.std.specs.Prelude.{Option, Some, None, slice_set, take, drop, ◌==◌, if◌then◌else◌, ⊤}
-use Rattle.genie_base.specs.Events.{mark_of}
-use Rattle.genie_base.specs.Headers.{header_taken, is_whole_header, is_valid_header, port_in, flow_in}
-use Rattle.genie_base.specs.Configs.{most}
-use Rattle.genie_base.specs.declared.reply.Mark.TheVariants as mark
-use Rattle.genie_base.specs.declared.reply.Reply.TheVariants as reply
+use Rattle.std.proofs.Common.{◌≡◌, ℕ, List, refl, sym, ap, ◌∙◌}
+use Rattle.std.specs.Prelude.{Option, Some, None, slice_set, ⊤}
 use Rattle.genie_model.specs.Flat.{sent_by, sent_of}
-use Rattle.genie_model.specs.declared.phase.Phase.TheVariants.{Moving}
-use Rattle.genie_model.specs.State.{State, Transfer, Device, Datagram}
-use Rattle.genie_model.specs.declared.datagram.Fate.{Fate}
-use Rattle.genie_model.specs.declared.datagram.Fate.TheVariants.{Matched, Skipped, Gathering}
+use Rattle.genie_model.specs.State.{State, Device}
 use Rattle.genie_model.specs.Tables.{entry}
 use Rattle.genie_model.specs.Orderly.{shape_of}
-use Rattle.genie_model.specs.Pending.{is_early, pending, first_posted}
-use Rattle.genie_model.specs.Space.{Outcome}
 use Rattle.genie_model.specs.Sending.{change_device}
-use Rattle.genie_model.specs.Receiving.{receiving, set_device, is_busy, with_phase, change_transfer, deliver, complete, landing, landed, land_in, land, after_bytes, go_on, take_payload, datagram, skipped, match_header, begin_datagram, read_header, take_header, receive_record, receive, recv}
+use Rattle.genie_model.specs.Receiving.{receiving, receive, recv}
 use Rattle.genie_model.proofs.Having.{entry_set}
 use Rattle.genie_model.proofs.Arriving.{recv_does, any_answer}
 

@@ -1,5 +1,5 @@
 -- The bytes of a range that a transfer names: as many as its places, each the one that stands in its place.
-use Rattle.std.proofs.Common.{◌≡◌, ℕ, zero, suc, ◌+◌, ◌<◌, ◌≤◌, true, false, ◌==◌, ◌⊎◌, inl, inr, ⊎_elim, List, [], ◌∷◌, ◌++◌, length, get_or, AllPairs, refl, sym, ap, ap₂, subst, ◌∙◌, add-one, eqb-true, arith}
+use Rattle.std.proofs.Common.{◌≡◌, ℕ, zero, suc, ◌+◌, ◌<◌, ◌≤◌, true, false, ◌==◌, ◌⊎◌, inl, inr, ⊎_elim, List, [], ◌∷◌, ◌++◌, length, get_or, AllPairs, refl, sym, ap, ap₂, ◌∙◌, add-one, eqb-true, arith}
 use Rattle.std.specs.Prelude.{Option, Some, None, ⊤, All}
 use Rattle.std.specs.List.{list_any}
 use Rattle.std.proofs.Math.Seq.{drop-cons}
@@ -8,12 +8,12 @@ use Rattle.std.proofs.lemmas.Bool.Decides.{nat_tests}
 use Rattle.std.proofs.lemmas.List.Elements.{All-head, All-tail}
 use Rattle.genie_base.specs.Bytes.{part}
 use Rattle.genie_model.specs.State.{State, Region, Orphan, Transfer}
-use Rattle.genie_model.specs.Regions.{is_region, is_orphan, region_numbered, orphan_numbered, is_within_range, byte_within, bytes_within, orphan_part, region_part, bytes_of}
+use Rattle.genie_model.specs.Regions.{is_orphan, region_numbered, orphan_numbered, is_within_range, byte_within, bytes_within, orphan_part, region_part, bytes_of}
 use Rattle.genie_model.specs.Sending.{named_bytes}
 use Rattle.genie_model.specs.Orderly.{LiesInRegion, LiesInOrphan, Lies, IsOrderly}
 use Rattle.genie_model.specs.Integrity.{Stood}
-use Rattle.genie_model.proofs.Having.{all_has, any_has, find_has, find_none, pairs_head, pairs_tail}
-use Rattle.genie_model.proofs.Finding.{all_of, region_found, differ, no_orphan, number_has, no_orphan_at}
+use Rattle.genie_model.proofs.Having.{all_has, any_has, find_has, pairs_head, pairs_tail}
+use Rattle.genie_model.proofs.Finding.{number_has, no_orphan_at}
 
 abbrev Below : ℕ × ℕ → ℕ × ℕ → Type 0
 Below a b = a.0 < b.0

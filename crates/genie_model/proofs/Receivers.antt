@@ -1,5 +1,5 @@
 -- Only inputs are posted, and devices receive for inputs alone, after every step.
-use Rattle.std.proofs.Common.{◌≡◌, ℕ, ◌+◌, ◌≤◌, Bool, true, List, [], ◌∷◌, map, filter, All, refl, sym, subst, true≢false, arith, ap}
+use Rattle.std.proofs.Common.{◌≡◌, ℕ, ◌+◌, ◌≤◌, true, List, [], map, filter, All, refl, sym, subst, true≢false, arith, ap}
 use Rattle.std.specs.Prelude.{Option, Some, None, IfSome, not, ◌==◌, if◌then◌else◌}
 use Rattle.std.proofs.lemmas.Bool.{cond_both}
 use Rattle.std.proofs.lemmas.List.Elements.{All-map, All-filter, All-push, All-weaker}
@@ -9,23 +9,21 @@ use Rattle.genie_base.specs.declared.event.Event.{Event}
 use Rattle.genie_base.specs.declared.event.Event.TheVariants.{Fork, Exit, Unmap, Protect, Write, Output, Input, Send, Recv, Finish, Cancel}
 use Rattle.genie_base.specs.declared.semantics.Class.{Class}
 use Rattle.genie_base.specs.declared.semantics.Class.TheVariants.{Copy, Share, Move, WeakMove}
-use Rattle.genie_base.specs.declared.semantics.Direction.{Direction}
-use Rattle.genie_base.specs.declared.semantics.Direction.TheVariants.{Outward, Inward}
 use Rattle.genie_model.specs.declared.datagram.Fate.{Fate}
 use Rattle.genie_model.specs.declared.datagram.Fate.TheVariants.{Matched, Skipped, Gathering}
 use Rattle.genie_model.specs.declared.phase.Phase.TheVariants.{Ready}
 use Rattle.genie_model.specs.Laws.{Stays}
 use Rattle.genie_model.specs.Orderly.{PostedAreInputs, IsInput, GoesToInput, IsUnderWay, ReceivesForInput, MatchedAreInputs, IsOrderly}
-use Rattle.genie_model.specs.State.{State, Region, Transfer, Device, Datagram}
+use Rattle.genie_model.specs.State.{State, Transfer, Device, Datagram}
 use Rattle.genie_model.specs.Tables.{entry}
-use Rattle.genie_model.specs.Regions.{regions_at, reach_of, write_reach_of, put}
-use Rattle.genie_model.specs.Pending.{is_early_at, is_inward, is_just, is_numbered, is_posted, waits_for, first_queued, pending, add_transfer}
-use Rattle.genie_model.specs.Space.{add_region, copy_of, add_copies, accessible, spawned, remove_found, region_from, protect_found, stored, is_move, disowned, is_posted_by}
-use Rattle.genie_model.specs.Outputs.{output_of, give_up}
-use Rattle.genie_model.specs.Inputs.{posted, with_buffer, weak_buffer, reusable, pages_for, address_or_zero}
+use Rattle.genie_model.specs.Regions.{regions_at, reach_of}
+use Rattle.genie_model.specs.Pending.{is_inward, is_just, is_numbered, is_posted, waits_for, first_queued, pending, add_transfer}
+use Rattle.genie_model.specs.Space.{accessible, spawned, region_from, is_move, disowned, is_posted_by}
+use Rattle.genie_model.specs.Outputs.{output_of}
+use Rattle.genie_model.specs.Inputs.{posted}
 use Rattle.genie_model.specs.Sending.{change_device, with_sent, next_part, after_sending, unsent, must_stage, send_count, send_next}
 use Rattle.genie_model.specs.Receiving.{recv}
-use Rattle.genie_model.specs.Ending.{without_transfer, region_of, finish_copy, finish_share, finish_move, finish_weak_move, finish_input, finish_owned, finish_for, finish_found, after_landing, cancel_found}
+use Rattle.genie_model.specs.Ending.{without_transfer, region_of, finish_found, cancel_found}
 use Rattle.genie_model.specs.Step.{accept, perform}
 use Rattle.genie_model.proofs.Arriving.{choice}
 use Rattle.genie_model.proofs.Covered.{IsKnown, received}

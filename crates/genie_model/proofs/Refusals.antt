@@ -1,17 +1,11 @@
 -- A step that is refused, and one that the store fails.
 use Rattle.std.proofs.Common.{◌≡◌, refl}
-use Rattle.std.proofs.lemmas.Bool.{cond_both}
-use Rattle.std.specs.Prelude.{Option, Some, None, IsTrue}
+use Rattle.std.specs.Prelude.{IsTrue}
 use Rattle.genie_base.specs.declared.event.Event.{Event}
-use Rattle.genie_base.specs.declared.refusal.Refusal.{Refusal}
-use Rattle.genie_base.specs.declared.reply.Mark.{Mark}
-use Rattle.genie_base.specs.declared.reply.Mark.TheVariants as mark
-use Rattle.genie_base.specs.declared.reply.Reply.TheVariants as reply
 use Rattle.genie_model.specs.State.{State}
 use Rattle.genie_model.specs.Space.{Outcome}
 use Rattle.genie_model.specs.Laws.{is_refused, RefusalsChangeNothing}
-use Rattle.genie_model.specs.Refusing.{refuse}
-use Rattle.genie_model.specs.Step.{answer, marked, accept, failed, may_fail, uses_store}
+use Rattle.genie_model.specs.Step.{accept}
 use Rattle.genie_model.proofs.Keeping.{accept_did}
 use Rattle.genie_model.proofs.Stepping.{outcome_so}
 

@@ -1,18 +1,15 @@
 -- What transfers name is there after every step.
-use Rattle.std.proofs.Common.{◌≡◌, ℕ, ◌<◌, Bool, true, false, not, List, length, refl, true≢false, arith}
-use Rattle.std.specs.Prelude.{Option, Some, None, ⊤, nat_lt, ◌==◌, is_some}
-use Rattle.std.proofs.lemmas.Bool.{cond_both, and_parts, or_parts, not-false}
-use Rattle.std.proofs.lemmas.Bool.Decides.{nat_tests}
+use Rattle.std.proofs.Common.{◌≡◌, ℕ, ◌<◌, Bool, true, false, List, length, refl, true≢false, arith}
+use Rattle.std.specs.Prelude.{Option, Some, None, ⊤, ◌==◌, is_some}
+use Rattle.std.proofs.lemmas.Bool.{and_parts, not-false}
 use Rattle.genie_base.specs.Regions.{is_accessible}
 use Rattle.genie_base.specs.Transfers.{class_of, is_system}
 use Rattle.genie_base.specs.declared.event.Event.{Event}
 use Rattle.genie_base.specs.declared.event.Event.TheVariants.{Spawn, Fork, Exit, Map, Alloc, Unmap, Protect, Read, Write, Output, Input, Send, Recv, Finish, Cancel, Pageout}
-use Rattle.genie_base.specs.declared.refusal.Refusal.{Refusal}
 use Rattle.genie_base.specs.declared.refusal.Refusal.TheVariants as cause
 use Rattle.genie_base.specs.declared.region.Area.TheVariants.{App}
 use Rattle.genie_base.specs.declared.region.RegionState.TheVariants.{Live}
 use Rattle.genie_base.specs.declared.reply.Mark.{Mark}
-use Rattle.genie_base.specs.declared.reply.Mark.TheVariants as mark
 use Rattle.genie_base.specs.declared.semantics.Class.{Class}
 use Rattle.genie_base.specs.declared.semantics.Class.TheVariants.{Copy, Share, Move, WeakMove}
 use Rattle.genie_model.specs.Refusing.{first_cause, causes, target_causes, refuse}
@@ -22,7 +19,7 @@ use Rattle.genie_model.specs.Regions.{regions_at, is_alive, place_in, reach_of}
 use Rattle.genie_model.specs.Pending.{pending}
 use Rattle.genie_model.specs.Inputs.{address_or_zero}
 use Rattle.genie_model.specs.Space.{zeros, zeros_at_place, remove_found, region_from, starts_at, protect_found, stored}
-use Rattle.genie_model.specs.Step.{Outcome, perform, accept, may_fail, uses_store, with_budget, failed, marked, answer, step}
+use Rattle.genie_model.specs.Step.{perform, accept, with_budget, step}
 use Rattle.genie_model.specs.Orderly.{RangesLie, HeldForOne, IsOrderly}
 use Rattle.genie_model.proofs.Causes.{none_holds, second_holds, both_none}
 use Rattle.genie_model.proofs.Having.{find_has}

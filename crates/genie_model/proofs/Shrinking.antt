@@ -1,32 +1,24 @@
 -- The events that make no region: what becomes of the tables of processes.
 use Rattle.std.proofs.Common.{◌≡◌, ℕ, zero, suc, ◌+◌, ◌≤◌, Bool, true, false, not, List, [], ◌∷◌, ◌++◌, length, map, refl, ◌∙◌, arith, length-set}
-use Rattle.std.specs.Prelude.{Option, Some, None, All, cond, sum_by, slice_set, slice_index_or, take, drop, replicate, ◌==◌, if◌then◌else◌}
+use Rattle.std.specs.Prelude.{Option, Some, None, All, cond, sum_by, slice_set, slice_index_or, replicate, ◌==◌}
 use Rattle.std.proofs.lemmas.List.{length-map, length-replicate}
 use Rattle.std.proofs.lemmas.List.Elements.{All-map, All-weaker, All-set}
 use Rattle.std.proofs.lemmas.List.Sums.{sum_by-cons}
 use Rattle.genie_base.proofs.Overlaid.{length-overlaid}
 use Rattle.genie_base.specs.Configs.{Config, most}
-use Rattle.genie_base.specs.Headers.{header_taken, is_whole_header, is_valid_header, port_in, flow_in}
 use Rattle.genie_base.specs.declared.region.RegionState.{RegionState}
 use Rattle.genie_base.specs.declared.region.RegionState.TheVariants.{Live, Out, In}
 use Rattle.genie_base.specs.declared.semantics.Class.{Class}
-use Rattle.genie_base.specs.declared.semantics.Class.TheVariants.{Copy, Share, Move, WeakMove}
-use Rattle.genie_base.specs.declared.semantics.Direction.{Direction}
-use Rattle.genie_base.specs.declared.semantics.Direction.TheVariants.{Outward, Inward}
-use Rattle.genie_model.specs.declared.datagram.Fate.{Fate}
-use Rattle.genie_model.specs.declared.datagram.Fate.TheVariants.{Matched, Skipped, Gathering}
-use Rattle.genie_model.specs.declared.phase.Phase.TheVariants.{Moving}
+use Rattle.genie_base.specs.declared.semantics.Class.TheVariants.{Move, WeakMove}
 use Rattle.genie_model.specs.Orderly.{AreApart}
-use Rattle.genie_model.specs.State.{State, Region, Process, Transfer, Device, Datagram}
-use Rattle.genie_model.specs.Tables.{entry}
-use Rattle.genie_model.specs.Regions.{regions_of, region_pages, is_region, has_number, write_reach_of, change_process, changed, changed_in, change_region, with_bytes, with_state, with_mode, put}
-use Rattle.genie_model.specs.Pending.{is_early, is_early_at, pending, first_posted, add_transfer}
-use Rattle.genie_model.specs.Space.{Outcome, spawned, without_region, remove, remove_found, protect_found, exit, stored}
+use Rattle.genie_model.specs.State.{State, Region, Process, Transfer}
+use Rattle.genie_model.specs.Regions.{regions_of, region_pages, is_region, has_number, change_process, changed, changed_in, change_region, with_bytes, with_state, with_mode, put}
+use Rattle.genie_model.specs.Space.{spawned, without_region, remove, remove_found, protect_found, exit, stored}
 use Rattle.genie_model.specs.Outputs.{moved_out_of, moved_out, give_up}
-use Rattle.genie_model.specs.Inputs.{moved_in_of, moved_in, address_or_zero}
+use Rattle.genie_model.specs.Inputs.{moved_in_of, moved_in}
 use Rattle.genie_model.specs.Sending.{must_stage, send_next}
-use Rattle.genie_model.specs.Receiving.{set_device, is_busy, with_phase, change_transfer, deliver, complete, landing, landed, land_in, land, after_bytes, go_on, take_payload, datagram, match_header, begin_datagram, read_header, take_header, receive_record, receive, recv}
-use Rattle.genie_model.specs.Ending.{filled, after_landing, finish_copy, finish_share, finish_move, finish_weak_move, finish_input, finish_owned, finish_for, finish_found, cancel_found, without_transfer, region_of}
+use Rattle.genie_model.specs.Receiving.{recv}
+use Rattle.genie_model.specs.Ending.{filled, finish_found, cancel_found, without_transfer, region_of}
 use Rattle.genie_model.proofs.Apart.{SameShape, same_shape, Lessens, none_lessens, reshaped, fewer, mapped_sum}
 use Rattle.genie_model.proofs.Arriving.{choice, recv_keeps}
 use Rattle.genie_model.proofs.Closing.{finish_for_keeps}

@@ -1,6 +1,6 @@
 -- What is so of the processes and their regions after every step.
-use Rattle.std.proofs.Common.{◌≡◌, ℕ, zero, suc, ◌+◌, ◌*◌, ◌<◌, ◌≤◌, Bool, true, false, not, List, [], ◌∷◌, length, refl, ap, ◌∙◌, arith, length-set}
-use Rattle.std.specs.Prelude.{Option, Some, None, All, cond, sum_by, slice_set, ◌==◌, unwrap_or, is_some}
+use Rattle.std.proofs.Common.{◌≡◌, ℕ, zero, suc, ◌+◌, ◌*◌, ◌<◌, ◌≤◌, true, false, not, List, [], ◌∷◌, length, refl, ap, ◌∙◌, arith, length-set}
+use Rattle.std.specs.Prelude.{Option, Some, None, All, cond, sum_by, slice_set, unwrap_or, is_some}
 use Rattle.std.proofs.lemmas.Bool.Decides.{nat_tests}
 use Rattle.std.proofs.lemmas.List.{length-replicate}
 use Rattle.std.proofs.lemmas.List.Elements.{All-head, All-tail, All-weaker, All-set, All-filter}
@@ -11,23 +11,19 @@ use Rattle.genie_base.specs.Regions.{AreInOrder, is_accessible}
 use Rattle.genie_base.specs.Transfers.{class_of}
 use Rattle.genie_base.specs.declared.event.Event.{Event}
 use Rattle.genie_base.specs.declared.event.Event.TheVariants.{Spawn, Fork, Exit, Map, Alloc, Unmap, Protect, Read, Write, Output, Input, Send, Recv, Finish, Cancel, Pageout}
-use Rattle.genie_base.specs.declared.refusal.Refusal.{Refusal}
 use Rattle.genie_base.specs.declared.region.Area.TheVariants.{App, Sys}
 use Rattle.genie_base.specs.declared.region.RegionState.TheVariants.{Live, In, Held}
-use Rattle.genie_base.specs.declared.reply.Mark.{Mark}
-use Rattle.genie_base.specs.declared.reply.Mark.TheVariants as mark
 use Rattle.genie_base.specs.declared.semantics.Class.{Class}
 use Rattle.genie_base.specs.declared.semantics.Class.TheVariants.{Copy, Share, Move, WeakMove}
 use Rattle.genie_model.specs.Inputs.{with_buffer, weak_buffer, reusable, pages_for}
 use Rattle.genie_model.specs.Laws.{Stays}
 use Rattle.genie_model.specs.Orderly.{IsOrderly, IsRegion, AreApart, RegionsAreApart, CommittedIsBounded}
-use Rattle.genie_model.specs.Outputs.{output_of}
 use Rattle.genie_model.specs.Pending.{first_queued, pending, add_transfer}
 use Rattle.genie_model.specs.Refusing.{refuse, must_make, accessible_pages}
 use Rattle.genie_model.specs.Regions.{extent_of, regions_of, regions_at, region_pages, committed, place_of, reach_of, change_process}
-use Rattle.genie_model.specs.Space.{Outcome, spawned, zeros, zeros_at_place, with_region, add_region, region_from, accessible, copy_of, add_copies, fork}
+use Rattle.genie_model.specs.Space.{spawned, zeros, zeros_at_place, with_region, add_region, region_from, accessible, copy_of, add_copies, fork}
 use Rattle.genie_model.specs.State.{State, Region, Process}
-use Rattle.genie_model.specs.Step.{answer, marked, accept, perform, failed, may_fail, uses_store, with_budget}
+use Rattle.genie_model.specs.Step.{accept, perform, with_budget}
 use Rattle.genie_model.specs.Tables.{entry}
 use Rattle.genie_model.proofs.Accepted.{IsNew, map_accepted, alloc_accepted, input_accepted, fork_accepted, page_some}
 use Rattle.genie_model.proofs.Apart.{Before, all_added, sum_added, one_more, clear}

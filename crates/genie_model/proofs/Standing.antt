@@ -1,5 +1,5 @@
 -- What each pending transfer names is there, and stays where regions and orphans change.
-use Rattle.std.proofs.Common.{◌≡◌, ℕ, ◌+◌, ◌≤◌, true, false, ◌&&◌, ◌==◌, inl, inr, ⊎_elim, List, filter, find, count_by, get_or, All, refl, sym, ap, subst, ◌∙◌, eqb-true, eq-eqb, ne_eqb, true≢false, le-leb, lt-ltb}
+use Rattle.std.proofs.Common.{◌≡◌, ℕ, ◌+◌, ◌≤◌, true, false, ◌&&◌, ◌==◌, inl, inr, ⊎_elim, List, filter, count_by, get_or, All, refl, sym, ap, subst, ◌∙◌, eqb-true, eq-eqb, ne_eqb, true≢false, le-leb, lt-ltb}
 use Rattle.std.specs.Prelude.{Option, Some, None, IsTrue, ⊤, nat_le, nat_lt}
 use Rattle.std.specs.Option.{option_map}
 use Rattle.std.specs.List.{list_any}
@@ -16,8 +16,8 @@ use Rattle.genie_model.specs.Regions.{regions_at, is_region, is_orphan, region_n
 use Rattle.genie_model.specs.Pending.{is_inward, is_just, names, names_weakly, covers}
 use Rattle.genie_model.specs.Space.{is_move, is_named, cut, tidy}
 use Rattle.genie_model.specs.Orderly.{LiesInRegion, LiesInOrphan, Lies, RangesLie, is_held, holds, MayName, moves_into, HeldForOne, NumbersDiffer, IsOrderly}
-use Rattle.genie_model.proofs.Having.{Has, all_has, has_at, any_has, has_any, none_from, find_has, find_map, find_filter, find_none, any_filter}
-use Rattle.genie_model.proofs.Finding.{all_of, has_region, differ, only_region, no_orphan, found_at, no_orphan_at}
+use Rattle.genie_model.proofs.Having.{Has, all_has, has_at, any_has, has_any, none_from, find_has, find_map, find_filter, any_filter}
+use Rattle.genie_model.proofs.Finding.{all_of, has_region, found_at, no_orphan_at}
 
 -- a move input names the region that its owner holds
 abbrev pub Holds : State → Transfer → ℕ → Type 0

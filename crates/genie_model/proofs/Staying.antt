@@ -1,13 +1,13 @@
 -- What transfers name stays there in the events on address spaces.
-use Rattle.std.proofs.Common.{◌≡◌, ℕ, zero, suc, ◌+◌, ◌*◌, ◌<◌, ◌≤◌, Bool, true, false, ◌&&◌, ◌==◌, List, [], ◌∷◌, ◌++◌, length, map, All, refl, ap, ◌∙◌, leb-true, add-mul, arith, get_or}
+use Rattle.std.proofs.Common.{◌≡◌, ℕ, ◌+◌, ◌*◌, ◌<◌, ◌≤◌, Bool, true, false, ◌&&◌, ◌==◌, List, [], ◌∷◌, ◌++◌, length, map, All, refl, ap, leb-true, add-mul, arith, get_or}
 use Rattle.std.specs.Prelude.{Option, Some, None, nat_le, nat_lt}
 use Rattle.std.specs.List.{list_any}
 use Rattle.std.proofs.lemmas.Bool.{cond_both, and_parts, or_parts}
-use Rattle.std.proofs.lemmas.List.Elements.{All-head, All-tail}
-use Rattle.std.proofs.lemmas.List.Sums.{length-filter, count_by-le-length}
 use Rattle.genie_base.specs.Regions.{is_accessible, is_reached, contains_range}
 use Rattle.genie_base.specs.declared.region.RegionState.{RegionState}
 use Rattle.genie_base.specs.declared.region.RegionState.TheVariants.{Live, Out, In}
+use Rattle.genie_base.specs.declared.semantics.Class.{Class}
+use Rattle.genie_base.specs.declared.semantics.Class.TheVariants.{Move, WeakMove}
 use Rattle.genie_model.specs.State.{State, Region, Process, Transfer}
 use Rattle.genie_model.specs.Tables.{entry}
 use Rattle.genie_model.specs.Regions.{extent_of, regions_of, regions_at, is_region, has_number, fresh, reach_of, place_in, change_process, changed, changed_in, change_region, with_bytes, with_state, with_mode, put}
@@ -16,14 +16,12 @@ use Rattle.genie_model.specs.Outputs.{moved_out_of, moved_out, give_up}
 use Rattle.genie_model.specs.Inputs.{moved_in_of, moved_in}
 use Rattle.genie_model.specs.Orderly.{moves_into, numbers, NumbersDiffer, IsRegion, AreApart, RegionsAreApart, IsOrderly}
 use Rattle.genie_model.proofs.Having.{Has, all_has, find_has, at_entry}
-use Rattle.genie_model.proofs.Finding.{all_of, region_found, has_region, differ, only_region, no_orphan, found_at}
+use Rattle.genie_model.proofs.Finding.{all_of, has_region, differ, no_orphan, found_at}
 use Rattle.genie_model.proofs.Standing.{Stand, stand_stays, stand_beside}
 use Rattle.genie_model.proofs.Changing.{InPlace, in_place_by, place_keeps_lies, place_keeps_held, place_keeps_others, put_in_place, remove_keeps_lies, remove_keeps_held}
 use Rattle.genie_model.proofs.Adding.{IsFree, unused_free, add_keeps_lies, add_keeps_held, numbers_few, spawned_all, spawn_keeps_lies, spawn_keeps_held}
 use Rattle.genie_model.proofs.Unused.{fresh_unused, few_numbers_beside}
 use Rattle.genie_model.proofs.Numbered.{added_length}
-use Rattle.genie_base.specs.declared.semantics.Class.{Class}
-use Rattle.genie_base.specs.declared.semantics.Class.TheVariants.{Move, WeakMove}
 use Rattle.genie_model.proofs.Forking.{accessible_few}
 
 -- what all transfers of the state name is there

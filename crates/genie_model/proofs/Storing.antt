@@ -18,13 +18,13 @@ use Rattle.genie_model.specs.Inputs.{address_or_zero}
 use Rattle.genie_model.specs.Integrity.{IsByteAt, buffer_of, start_in, Stores, CoveredBytesStay}
 use Rattle.genie_model.specs.Orderly.{moves_into, IsOrderly}
 use Rattle.genie_model.specs.Pending.{is_early_at, is_inward, is_numbered, names, names_weakly, covers, pending}
-use Rattle.genie_model.specs.Regions.{is_region, region_numbered, is_orphan, orphan_numbered, reach_of, write_reach_of, place_in, bytes_within, orphan_part, region_part, bytes_of, changed, change_region, with_state, put}
+use Rattle.genie_model.specs.Regions.{region_numbered, is_orphan, orphan_numbered, reach_of, write_reach_of, place_in, bytes_within, orphan_part, region_part, bytes_of, changed, change_region, with_state, put}
 use Rattle.genie_model.specs.Space.{is_move, cut, tidy, stored}
 use Rattle.genie_model.specs.State.{State, Region, Orphan, Transfer}
 use Rattle.genie_model.specs.Step.{perform, with_budget, step}
 use Rattle.genie_model.proofs.Changing.{InPlace, place_found}
 use Rattle.genie_model.proofs.Covered.{inputs_keep_integrity}
-use Rattle.genie_model.proofs.Finding.{all_of, region_found, number_has}
+use Rattle.genie_model.proofs.Finding.{number_has}
 use Rattle.genie_model.proofs.Finishing.{named_region, filled_place}
 use Rattle.genie_model.proofs.Having.{any_has, has_any, find_has}
 use Rattle.genie_model.proofs.Inside.{IsNew, put_gives}
