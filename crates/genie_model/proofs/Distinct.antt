@@ -23,10 +23,11 @@ use Rattle.genie_model.specs.Step.{accept, perform, with_budget, step}
 use Rattle.genie_model.proofs.Accepted.{fork_accepted}
 use Rattle.genie_model.proofs.Arriving.{choice, recv_keeps}
 use Rattle.genie_model.proofs.Unused.{times, once_each, differ_from_once, few_numbers, few_numbers_beside, fresh_unused, no_longer}
-use Rattle.genie_model.proofs.Numbered.{Once, IsThere, added_once, copies_once, spawned_times, change_kept, out_kept, in_kept, put_kept, tidy_once, removed_times, at_there, region_there, exited_times}
+use Rattle.genie_model.proofs.Numbered.{Once, added_once, copies_once, spawned_times, change_kept, out_kept, in_kept, put_kept, tidy_once, removed_times, exited_times}
 use Rattle.genie_model.proofs.Closing.{finish_for_keeps}
 use Rattle.genie_model.proofs.Stepping.{event_so}
 use Rattle.genie_model.proofs.Forking.{accessible_few}
+use Rattle.genie_model.proofs.Finding.{IsThere, at_there, region_there}
 
 same_once : (s t : State) → numbers t ≡ numbers s → Once s → Once t
 same_once s t same most = subst (λ l. (k : ℕ) → times k l ≤ 1) (sym same) most

@@ -1,16 +1,18 @@
 -- What the number of a region or an orphan finds, and what it finds where regions or orphans are changed.
-use Rattle.std.proofs.Common.{◌≡◌, ℕ, zero, suc, false, ◌==◌, inl, inr, List, [], ◌∷◌, ◌++◌, map, find, flat_map, AllPairs, ◌≢◌, refl, sym, ap, ap₂, subst, ◌∙◌, append_assoc, eqb-true, eq-eqb, ne_eqb, true}
-use Rattle.std.specs.Prelude.{Option, Some, None, slice_set}
-use Rattle.std.specs.Option.{option_flatten}
+use Rattle.std.proofs.Common.{◌≡◌, ℕ, zero, suc, false, ◌==◌, inl, inr, List, [], ◌∷◌, ◌++◌, map, find, flat_map, AllPairs, ◌≢◌, refl, sym, ap, ap₂, subst, ◌∙◌, append_assoc, eqb-true, eq-eqb, ne_eqb, true, Bool}
+use Rattle.std.specs.Prelude.{Option, Some, None, slice_set, ⊤}
+use Rattle.std.specs.Option.{option_flatten, option_and_then}
 use Rattle.std.specs.List.{list_any}
 use Rattle.std.proofs.lemmas.Bool.{cond_both, cond-true, cond-false, or_parts}
 use Rattle.std.proofs.lemmas.List.{map-append}
-use Rattle.genie_model.specs.State.{State, Region, Orphan, Process}
+use Rattle.genie_model.specs.State.{State, Region, Orphan, Process, Transfer}
 use Rattle.genie_model.specs.Tables.{entry}
 use Rattle.genie_model.specs.Regions.{regions_of, regions_at, is_region, is_orphan, has_number, region_numbered, change_process, orphan_numbered}
 use Rattle.genie_model.specs.Space.{as_orphan, add_orphan, add_orphans}
 use Rattle.genie_model.specs.Orderly.{region_numbers, orphan_numbers, NumbersDiffer}
 use Rattle.genie_model.proofs.Having.{Has, or_next, has_left, has_right, has_map, none_from, find_append, find_first, find_none, none_found, find_put_other, find_put_here, pairs_head, pairs_tail, entry_map, find_has}
+use Rattle.genie_model.specs.Pending.{is_just}
+use Rattle.genie_model.specs.Ending.{region_of}
 
 abbrev pub all_of : List (Option Process) → List Region
 all_of processes = flat_map regions_of processes
@@ -36,6 +38,26 @@ has_all (x ∷ ps) (suc p) r h = has_right r (regions_of x) (all_of ps) (has_all
 
 pub has_region : (s : State) (p : ℕ) (r : Region) → Has r (regions_at s p) → Has r (all_of s.processes)
 has_region s p r h = has_all s.processes p r h
+
+-- the region that a transfer names
+pub named_region : (s : State) (named : Option ℕ) (r : Region) → option_and_then (region_numbered s) named ≡ Some r → Has r (all_of s.processes) × (is_just named r.number ≡ true)
+named_region s None r e = absurd (cc)
+named_region s (Some k) r e = let f = number_has s k r e in (f.0, eq-eqb k r.number (sym (eqb-true r.number k f.1)))
+
+-- the region is one of the state
+abbrev pub IsThere : State → Option Region → Type 0
+IsThere s None = ⊤
+IsThere s (Some r) = Has r (all_of s.processes)
+
+is_there : (s : State) (o : Option Region) → ((r : Region) → o ≡ Some r → Has r (all_of s.processes)) → IsThere s o
+is_there s None h = tt
+is_there s (Some r) h = h r refl
+
+pub at_there : (s : State) (p : ℕ) (test : Region → Bool) → IsThere s (find test (regions_at s p))
+at_there s p test = is_there s (find test (regions_at s p)) (λ r e. has_region s p r (find_has test (regions_at s p) r e).0)
+
+pub region_there : (s : State) (t : Transfer) → IsThere s (region_of s t)
+region_there s t = is_there s (region_of s t) (λ r e. (named_region s t.region r e).0)
 
 -- where the regions of each process are changed, as by a map or a filter
 module _ (F : List Region → List Region) (empty : F [] ≡ []) (joins : (xs ys : List Region) → F (xs ++ ys) ≡ F xs ++ F ys) (g : Process → Process) (each : (p : Process) → (g p).regions ≡ F p.regions) where

@@ -1,6 +1,6 @@
 -- What transfers name stays there where a transfer ends.
-use Rattle.std.proofs.Common.{◌≡◌, ℕ, true, false, List, length, replicate, refl, sym, ◌∙◌, eqb-true, eq-eqb}
-use Rattle.std.specs.Prelude.{Option, Some, None, option_and_then}
+use Rattle.std.proofs.Common.{◌≡◌, ℕ, false, List, length, replicate, refl, ◌∙◌}
+use Rattle.std.specs.Prelude.{Option, Some, None}
 use Rattle.std.specs.List.{list_any}
 use Rattle.std.proofs.lemmas.Bool.{cond_both}
 use Rattle.std.proofs.lemmas.List.{length-replicate}
@@ -11,21 +11,16 @@ use Rattle.genie_base.specs.declared.semantics.Class.TheVariants.{Copy, Share, M
 use Rattle.genie_base.specs.declared.semantics.Direction.{Direction}
 use Rattle.genie_base.specs.declared.semantics.Direction.TheVariants.{Outward, Inward}
 use Rattle.genie_model.specs.State.{State, Region, Transfer}
-use Rattle.genie_model.specs.Regions.{region_numbered, place_in, write_reach_of, changed_in, change_region, with_state, put}
-use Rattle.genie_model.specs.Pending.{is_early_at, is_numbered, is_just, pending}
+use Rattle.genie_model.specs.Regions.{place_in, write_reach_of, changed_in, change_region, with_state, put}
+use Rattle.genie_model.specs.Pending.{is_early_at, is_numbered, pending}
 use Rattle.genie_model.specs.Outputs.{give_up}
 use Rattle.genie_model.specs.Inputs.{address_or_zero}
 use Rattle.genie_model.specs.Ending.{without_transfer, region_of, finish_copy, filled, finish_move, finish_share, finish_weak_move, finish_input, finish_owned, finish_for, finish_found, cancel_found}
 use Rattle.genie_model.specs.Orderly.{moves_into, NumbersDiffer}
-use Rattle.genie_model.proofs.Having.{Has}
-use Rattle.genie_model.proofs.Finding.{all_of, number_has}
+use Rattle.genie_model.proofs.Finding.{named_region}
 use Rattle.genie_model.proofs.Changing.{InPlace, in_place_by}
 use Rattle.genie_model.proofs.Naming.{stand_without, none_left}
 use Rattle.genie_model.proofs.Staying.{Stands, put_stands, state_stands, live_place, give_up_stands}
-
-pub named_region : (s : State) (named : Option ℕ) (r : Region) → option_and_then (region_numbered s) named ≡ Some r → Has r (all_of s.processes) × (is_just named r.number ≡ true)
-named_region s None r e = absurd (cc)
-named_region s (Some k) r e = let f = number_has s k r e in (f.0, eq-eqb k r.number (sym (eqb-true r.number k f.1)))
 
 pub filled_place : (s : State) (k : ℕ) (bytes : List ℕ) → InPlace s (change_region s k (filled bytes)) k (filled bytes)
 filled_place s k bytes = in_place_by s (change_region s k (filled bytes)) k (filled bytes) (changed_in k (filled bytes)) refl (λ p. refl) (λ r. refl)

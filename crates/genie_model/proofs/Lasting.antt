@@ -1,6 +1,6 @@
 -- Every event but those that store bytes leaves a byte that a pending weak transfer covers.
 use Rattle.std.proofs.Common.{◌≡◌, ℕ, zero, suc, ◌+◌, ◌<◌, Bool, true, false, not, ◌&&◌, ◌==◌, ◌⊎◌, inl, inr, ⊎_elim, List, [], ◌∷◌, ◌++◌, map, filter, find, AllPairs, ◌≢◌, refl, sym, ap, subst, ◌∙◌, eqb-true, eq-eqb, ne_eqb, true≢false, arith}
-use Rattle.std.specs.Prelude.{Option, Some, None, IsTrue, ⊤, nat_le, nat_lt, option_and_then}
+use Rattle.std.specs.Prelude.{Option, Some, None, IsTrue, ⊤, nat_le, nat_lt}
 use Rattle.std.specs.List.{list_any}
 use Rattle.std.proofs.lemmas.Bool.{cases_Bool, cond_both, and_parts}
 use Rattle.std.proofs.lemmas.Bool.Decides.{nat_tests}
@@ -32,7 +32,7 @@ use Rattle.genie_model.proofs.Among.{Among, among_has, has_among, among_left, am
 use Rattle.genie_model.proofs.Arriving.{choice}
 use Rattle.genie_model.proofs.Accepted.{spawn_accepted, fork_accepted}
 use Rattle.genie_model.proofs.Distinct.{numbers_differ}
-use Rattle.genie_model.proofs.Finding.{all_of, has_region, differ, numbers_in, no_orphan, number_has, found_at}
+use Rattle.genie_model.proofs.Finding.{all_of, differ, numbers_in, no_orphan, number_has, found_at, IsThere, at_there, region_there}
 use Rattle.genie_model.proofs.Having.{Has, all_has, any_has, has_any, find_has, has_map, has_either, pairs_head, pairs_tail, pairs_right}
 use Rattle.genie_model.proofs.Stepping.{event_so}
 
@@ -200,27 +200,11 @@ module _ (k x : ℕ) (b : List ℕ) where
   abbrev Tells : State → Type 0
   Tells s = (r : Region) → Has r (all_of s.processes) → r.number ≡ k → part x 1 r.bytes ≡ b
 
-  abbrev There : State → Option Region → Type 0
-  There s None = ⊤
-  There s (Some r) = Has r (all_of s.processes)
-
-  found_there : (s : State) (test : Region → Bool) (p : ℕ) (o : Option Region) → find test (regions_at s p) ≡ o → There s o
-  found_there s test p None e = tt
-  found_there s test p (Some r) e = has_region s p r (find_has test (regions_at s p) r e).0
-
-  numbered_there : (s : State) (j : ℕ) (o : Option Region) → region_numbered s j ≡ o → There s o
-  numbered_there s j None e = tt
-  numbered_there s j (Some r) e = (number_has s j r e).0
-
-  named_there : (s : State) (named : Option ℕ) → There s (option_and_then (region_numbered s) named)
-  named_there s None = tt
-  named_there s (Some j) = numbered_there s j (region_numbered s j) refl
-
   place_has : (g : Process → Process) → ((p : Process) → Among InRegion p.regions → Among InRegion (g p).regions) → (s : State) → HasByte s → HasByte (record s { processes = map (change_process g) s.processes })
   place_has g so s (inl h) = inl (each_has g so s.processes h)
   place_has g so s (inr h) = inr h
 
-  unmap_has : (s : State) (o : Option Region) → Tells s → There s o → HasByte s → HasByte (remove_found s o)
+  unmap_has : (s : State) (o : Option Region) → Tells s → IsThere s o → HasByte s → HasByte (remove_found s o)
   unmap_has s None tells there h = h
   unmap_has s (Some r) tells there h = remove_has s r (tells r there) h
 
@@ -228,7 +212,7 @@ module _ (k x : ℕ) (b : List ℕ) where
   protect_has s None writable h = h
   protect_has s (Some r) writable h = place_has (changed_in r.number (with_mode writable)) (λ p. changed_has r.number (with_mode writable) (λ q g. g) p.regions) s h
 
-  given_up_has : (s : State) (class : Class) (o : Option Region) → Tells s → There s o → HasByte s → HasByte (give_up s class o)
+  given_up_has : (s : State) (class : Class) (o : Option Region) → Tells s → IsThere s o → HasByte s → HasByte (give_up s class o)
   given_up_has s class None tells there h = h
   given_up_has s Move (Some r) tells there h = remove_has s r (tells r there) h
   given_up_has s WeakMove (Some r) tells there h = place_has (moved_out_of r.number) (out_has r.number) s h
@@ -250,7 +234,7 @@ module _ (k x : ℕ) (b : List ℕ) where
 
   cancel_has : (s : State) (j : ℕ) (o : Option Transfer) → Tells s → HasByte s → HasByte (cancel_found s j o).0
   cancel_has s j None tells h = h
-  cancel_has s j (Some t) tells h = given_up_has (without_transfer s j) t.class (region_of s t) tells (named_there s t.region) h
+  cancel_has s j (Some t) tells h = given_up_has (without_transfer s j) t.class (region_of s t) tells (region_there s t) h
 
   -- where a process comes, none was
   abbrev IsVacant : State → Event → Type 0
@@ -270,13 +254,13 @@ module _ (k x : ℕ) (b : List ℕ) where
     perform_has (Exit p) quiet none = exit_has s p h
     perform_has (Map p g n) quiet none = add_has s p (zeros s App Live g n) h
     perform_has (Alloc p n) quiet none = add_has s p (zeros_at_place s Live p n) h
-    perform_has (Unmap p g) quiet none = unmap_has s (region_from s p g) tells (found_there s (starts_at g) p (region_from s p g) refl) h
+    perform_has (Unmap p g) quiet none = unmap_has s (region_from s p g) tells (at_there s p (starts_at g)) h
     perform_has (Protect p g writable) quiet none = protect_has s (region_from s p g) writable h
     perform_has (Read p a n) quiet none = h
     perform_has (Write p a bytes) quiet none = absurd (true≢false quiet)
     perform_has (Output p sem d port flow a n) quiet none =
         let to : Address = record { device = d; port = port; flow = flow } in
-        given_up_has (add_transfer s (output_of s p (class_of sem) to a n (reach_of s p a n))) (class_of sem) (reach_of s p a n) tells (found_there s (λ r. is_reached s.config.page a n (extent_of r)) p (reach_of s p a n) refl) h
+        given_up_has (add_transfer s (output_of s p (class_of sem) to a n (reach_of s p a n))) (class_of sem) (reach_of s p a n) tells (at_there s p (λ r. is_reached s.config.page a n (extent_of r))) h
     perform_has (Input p sem d port flow a n) quiet none = input_has s p (class_of sem) n h
     perform_has (Send d n) quiet none = send_has s d n (first_queued s d) h
     perform_has (Recv d n) quiet none = absurd (true≢false quiet)

@@ -24,8 +24,8 @@ use Rattle.genie_model.specs.State.{State, Region, Orphan, Transfer}
 use Rattle.genie_model.specs.Step.{perform, with_budget, step}
 use Rattle.genie_model.proofs.Changing.{InPlace, place_found}
 use Rattle.genie_model.proofs.Covered.{inputs_keep_integrity}
-use Rattle.genie_model.proofs.Finding.{number_has}
-use Rattle.genie_model.proofs.Finishing.{named_region, filled_place}
+use Rattle.genie_model.proofs.Finding.{number_has, named_region}
+use Rattle.genie_model.proofs.Finishing.{filled_place}
 use Rattle.genie_model.proofs.Having.{any_has, has_any, find_has}
 use Rattle.genie_model.proofs.Inside.{IsNew, put_gives}
 use Rattle.genie_model.proofs.Lasting.{names_covered, cut_has, others_leave}
