@@ -1,15 +1,16 @@
 -- What is known of an accepted event that makes a region or a process.
 use Rattle.std.proofs.Common.{◌≡◌, ℕ, zero, suc, ◌+◌, ◌-◌, ◌*◌, ◌<◌, ◌≤◌, Bool, true, false, not, List, [], ◌∷◌, ◌++◌, length, refl, arith}
-use Rattle.std.specs.Prelude.{Option, Some, None, All, IsTrue, cond, find, unwrap_or, sum_by, nat_le, nat_lt, ◌||◌, is_some}
+use Rattle.std.specs.Prelude.{Option, Some, None, All, IsTrue, cond, find, unwrap_or, sum_by, nat_lt, ◌||◌, is_some}
 use Rattle.std.specs.List.{range_with_len}
 use Rattle.std.proofs.lemmas.Bool.Decides.{nat_tests}
 use Rattle.std.proofs.lemmas.List.Elements.{All-cons, All-head, All-tail, All-weaker}
 use Rattle.std.proofs.lemmas.List.Sums.{AllPass-from_list_all}
 use Rattle.std.proofs.lemmas.Nat.{div_below, le-div}
+use Rattle.std.proofs.lemmas.Bool.{not-false, leb-false}
 use Rattle.genie_base.specs.Configs.{DeviceConfig}
 use Rattle.genie_base.specs.Counts.{is_page_size}
 use Rattle.genie_base.specs.Regions.{is_apart, is_free}
-use Rattle.genie_base.specs.declared.event.Event.TheVariants.{Fork, Map, Alloc}
+use Rattle.genie_base.specs.declared.event.Event.TheVariants.{Spawn, Fork, Map, Alloc}
 use Rattle.genie_base.specs.declared.refusal.Refusal.{Refusal}
 use Rattle.genie_base.specs.declared.refusal.Refusal.TheVariants.{Proc}
 use Rattle.genie_base.specs.declared.region.Area.{Area}
@@ -22,7 +23,7 @@ use Rattle.genie_model.specs.Refusing.{causes, refuse, first_cause, call_causes,
 use Rattle.genie_model.specs.Regions.{extent_of, regions_at, is_alive, place_of, committed}
 use Rattle.genie_model.specs.State.{State, Region}
 use Rattle.genie_model.specs.Tables.{entry}
-use Rattle.genie_model.proofs.Causes.{first_none, both_none, most_end}
+use Rattle.genie_model.proofs.Causes.{Fails, none_holds, both_none, most_end}
 
 -- n pages from this one on are a region that process p may get: in their area, free, and with room in the table of the
 -- process and in the store
@@ -34,19 +35,8 @@ pub record IsNew (s : State) (p : ℕ) (kind : Area) (start n : ℕ) : Type 0 wh
   pub few : length (regions_at s p) < 32
   pub backing : committed s + n ≤ s.config.slots
 
-abbrev Fails : Bool × Refusal → Type 0
-Fails row = row.0 ≡ false
-
--- none of them holds
-none_holds : (rows : List (Bool × Refusal)) → first_cause rows ≡ None → All Fails rows
-none_holds [] e = λ k d l. absurd (omega arith)
-none_holds (row ∷ rows) e = let h = first_none row rows e in All-cons Fails row rows h.0 (none_holds rows h.1)
-
 end_of : (low high n : ℕ) → not (is_within low high n) ≡ false → (low ≤ n) × (n ≤ high)
 end_of low high n e = grind (arith, nat_tests)
-
-some_below : (n m : ℕ) → nat_le n m ≡ false → m < n
-some_below n m e = grind (arith, nat_tests)
 
 fits : (s : State) (n : ℕ) → over_backing s n ≡ false → committed s + n ≤ s.config.slots
 fits s n e = grind (arith, nat_tests)
@@ -63,7 +53,7 @@ map_accepted s p g n e =
     let d : Bool × Refusal = (true, Proc) in
     let range = end_of 1 64 n (none 1 d (omega arith)) in
     let place = in_app g n (is_free extent_of g n (regions_at s p)) (none 2 d (omega arith)) in
-    record { some = range.0; most = range.1; area = place.0; free = all_free s p g n place.1; few = some_below 32 (length (regions_at s p)) (none 3 d (omega arith)); backing = fits s n (none 4 d (omega arith)) }
+    record { some = range.0; most = range.1; area = place.0; free = all_free s p g n place.1; few = leb-false 32 (length (regions_at s p)) (none 3 d (omega arith)); backing = fits s n (none 4 d (omega arith)) }
 
 -- what a search finds, where something holds of all that it goes through
 found : {X : Type 0} (P : X → Type 0) (x d : X) (b : Bool) (later : Option X) (passes : X → Bool) → passes x ≡ b → P x → (is_some later ≡ true → (passes (unwrap_or later d) ≡ true) × P (unwrap_or later d)) → is_some (cond b (Some x) later) ≡ true → (passes (unwrap_or (cond b (Some x) later) d) ≡ true) × P (unwrap_or (cond b (Some x) later) d)
@@ -78,16 +68,12 @@ in_range : (low n : ℕ) → All (λ k. (low ≤ k) × (k < low + n)) (range_wit
 in_range low zero = λ k d l. absurd (omega arith)
 in_range low (suc n) = All-cons (λ k. (low ≤ k) × (k < low + suc n)) low (range_with_len (low + 1) n) (omega arith, omega arith) (All-weaker (λ k. (low + 1 ≤ k) × (k < low + 1 + n)) (λ k. (low ≤ k) × (k < low + suc n)) (λ k h. (omega (arith, h.0), omega (arith, h.1))) (range_with_len (low + 1) n) (in_range (low + 1) n))
 
-here : (b : Bool) → not b ≡ false → b ≡ true
-here true e = refl
-here false e = absurd (cc)
-
 -- n pages at their place in the system area
 new_region : (s : State) (p n : ℕ) → 1 ≤ n → n ≤ 64 → All Fails (new_region_causes s p n) → IsNew s p Sys (unwrap_or (place_of s p n) 0) n
 new_region s p n some most none =
     let d : Bool × Refusal = (true, Proc) in
-    let at = found_or (λ k. (512 ≤ k) × (k < 512 + (513 - n))) (λ k. is_free extent_of k n (regions_at s p)) 0 (range_with_len 512 (513 - n)) (in_range 512 (513 - n)) (here (is_some (place_of s p n)) (none 1 d (omega arith))) in
-    record { some = some; most = most; area = (at.1.0, omega (arith, at.1.1)); free = all_free s p (unwrap_or (place_of s p n) 0) n at.0; few = some_below 32 (length (regions_at s p)) (none 0 d (omega arith)); backing = fits s n (none 2 d (omega arith)) }
+    let at = found_or (λ k. (512 ≤ k) × (k < 512 + (513 - n))) (λ k. is_free extent_of k n (regions_at s p)) 0 (range_with_len 512 (513 - n)) (in_range 512 (513 - n)) (not-false (is_some (place_of s p n)) (none 1 d (omega arith))) in
+    record { some = some; most = most; area = (at.1.0, omega (arith, at.1.1)); free = all_free s p (unwrap_or (place_of s p n) 0) n at.0; few = leb-false 32 (length (regions_at s p)) (none 0 d (omega arith)); backing = fits s n (none 2 d (omega arith)) }
 
 pub alloc_accepted : (s : State) (p n : ℕ) → refuse s (Alloc p n) ≡ None → IsNew s p Sys (unwrap_or (place_of s p n) 0) n
 alloc_accepted s p n e =
@@ -131,14 +117,21 @@ input_accepted s p class d a n cost page e made =
 -- process q may come, with copies of all accessible regions of p
 pub record IsNewProcess (s : State) (p q : ℕ) : Type 0 where
   pub place : q < 16
-  pub free : is_alive s q ≡ false
+  pub free : entry s.processes q ≡ None
   pub backing : committed s + sum_by accessible_pages (regions_at s p) ≤ s.config.slots
 
 second : (a : Bool) (q : ℕ) → (a || nat_lt 15 q) ≡ false → q < 16
 second a q e = grind (arith, nat_tests)
 
+nothing_here : {X : Type 0} (o : Option X) → is_some o ≡ false → o ≡ None
+nothing_here None e = refl
+nothing_here (Some x) e = absurd (cc)
+
+pub spawn_accepted : (s : State) (p : ℕ) → refuse s (Spawn p) ≡ None → entry s.processes p ≡ None
+spawn_accepted s p e = nothing_here (entry s.processes p) (none_holds (causes s (Spawn p)) e 1 (true, Proc) (omega arith))
+
 pub fork_accepted : (s : State) (p q : ℕ) → refuse s (Fork p q) ≡ None → IsNewProcess s p q
 fork_accepted s p q e =
     let none = none_holds (causes s (Fork p q)) e in
     let d : Bool × Refusal = (true, Proc) in
-    record { place = second (not (is_alive s p)) q (none 0 d (omega arith)); free = none 1 d (omega arith); backing = fits s (sum_by accessible_pages (regions_at s p)) (none 2 d (omega arith)) }
+    record { place = second (not (is_alive s p)) q (none 0 d (omega arith)); free = nothing_here (entry s.processes q) (none 1 d (omega arith)); backing = fits s (sum_by accessible_pages (regions_at s p)) (none 2 d (omega arith)) }

@@ -1,12 +1,11 @@
 -- What is known of a call that is accepted: its number is the next one, and there is room for it.
-use Rattle.std.proofs.Common.{◌≡◌, ℕ, zero, suc, ◌+◌, ◌-◌, ◌*◌, ◌<◌, ◌≤◌, Bool, true, false, not, List, [], ◌∷◌, length, take, drop, refl, ap, sym, subst, arith}
+use Rattle.std.proofs.Common.{◌≡◌, ℕ, ◌+◌, ◌-◌, ◌*◌, ◌<◌, ◌≤◌, Bool, true, false, List, [], ◌∷◌, length, take, drop, refl, ap, sym, subst, arith, ltb-false}
 use Rattle.std.proofs.Math.Nat.{mul-add-div_right}
 use Rattle.std.proofs.lemmas.Bool.{cond_both, and_parts}
 use Rattle.std.proofs.lemmas.Bool.Decides.{nat_tests}
-use Rattle.std.specs.Prelude.{Option, Some, None, cond, IsTrue, ⊤, nat_le, nat_lt, ◌==◌, ◌&&◌, is_some, unwrap_or, All}
-use Rattle.std.proofs.lemmas.List.Elements.{All-nil, All-cons}
+use Rattle.std.specs.Prelude.{Option, Some, None, cond, IsTrue, ⊤, nat_le, nat_lt, ◌==◌, ◌&&◌, is_some, unwrap_or}
 use Rattle.genie_base.specs.Configs.{Fits}
-use Rattle.genie_base.specs.Counts.{is_page_size, span, cost}
+use Rattle.genie_base.specs.Counts.{span, cost}
 use Rattle.genie_base.specs.Events.{is_whole, has_one}
 use Rattle.genie_base.specs.Posted.{Address}
 use Rattle.genie_base.specs.Regions.{reach, is_reached, is_accessible, contains_range}
@@ -24,8 +23,9 @@ use Rattle.genie_model.specs.Pending.{wired, cost_of}
 use Rattle.genie_model.specs.Outputs.{place_reached}
 use Rattle.genie_model.specs.Inputs.{posted, address_or_zero}
 use Rattle.genie_model.specs.Refusing.{refuse, first_cause, causes, call_causes, target_causes, frames_to_wire}
-use Rattle.genie_model.proofs.Causes.{first_none, both_none, few_calls}
+use Rattle.genie_model.proofs.Causes.{none_holds, second_holds, both_none, few_calls}
 use Rattle.genie_model.proofs.Keeping.{call_of}
+use Rattle.genie_model.proofs.Accepted.{page_some}
 
 pub record IsAccepted (s : State) (t : Transfer) : Type 0 where
   pub number : t.number ≡ s.next
@@ -36,10 +36,6 @@ pub record IsAccepted (s : State) (t : Transfer) : Type 0 where
 abbrev pub OnCall : (Transfer → Type 0) → Option Transfer → Type 0
 OnCall P None = ⊤
 OnCall P (Some t) = P t
-
-page_some : (n : ℕ) → is_page_size n ≡ true → 0 < n
-page_some zero e = absurd (cc)
-page_some (suc n) e = omega arith
 
 cond_agree : (b : Bool) (x y z : ℕ) → (b ≡ false → y ≡ z) → cond b x y ≡ cond b x z
 cond_agree true x y z e = refl
@@ -75,25 +71,13 @@ placed_span s a n (Some r) some low here =
 
 -- the place of an address in its region begins as many pages as the address
 reached_span : (s : State) (p a n : ℕ) → Fits s.config → is_some (reach_of s p a n) ≡ true → span s.config.page (place_reached s (reach_of s p a n) a) n ≡ span s.config.page a n
-reached_span s p a n fits here = placed_span s a n (reach_of s p a n) (page_some s.config.page fits.page) (reached_start s.config.page a n (regions_at s p)) here
-
-pub none_holds : (rows : List (Bool × Refusal)) → first_cause rows ≡ None → All (λ (row : Bool × Refusal). row.0 ≡ false) rows
-none_holds [] e = All-nil (λ (row : Bool × Refusal). row.0 ≡ false)
-none_holds (x ∷ rows) e = let h = first_none x rows e in All-cons (λ (row : Bool × Refusal). row.0 ≡ false) x rows h.0 (none_holds rows h.1)
-
-pub second_holds : (a b : Bool) → not (a && b) ≡ false → b ≡ true
-second_holds true true e = refl
-second_holds true false e = absurd (cc)
-second_holds false b e = absurd (cc)
-
-not_over : (a b : ℕ) → nat_lt a b ≡ false → b ≤ a
-not_over a b e = grind (arith, nat_tests)
+reached_span s p a n fits here = placed_span s a n (reach_of s p a n) (omega (arith, page_some s.config.page fits.page)) (reached_start s.config.page a n (regions_at s p)) here
 
 has_room : (s : State) (t : Transfer) (frames : ℕ) → t.number ≡ s.next → cost_of s.config.page t ≡ frames → first_cause (call_causes s frames) ≡ None → IsAccepted s t
 has_room s t frames number same none = record {
   number = number;
   few = few_calls s frames none;
-  wired = rw same (not_over (frames_to_wire s) (wired s + frames) (none_holds (call_causes s frames) none 1 (true, Range) (omega arith)));
+  wired = rw same (ltb-false (frames_to_wire s) (wired s + frames) (none_holds (call_causes s frames) none 1 (true, Range) (omega arith)));
 }
 
 input_number : (s : State) (p : ℕ) (class : Class) (to : Address) (a : Option ℕ) (n : ℕ) → (posted s p class to a n).number ≡ s.next

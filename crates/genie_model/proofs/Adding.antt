@@ -1,5 +1,5 @@
 -- What transfers name stays there where a region or a process is added.
-use Rattle.std.proofs.Common.{◌≡◌, ℕ, ◌+◌, ◌≤◌, Bool, true, false, ◌||◌, ◌==◌, inl, inr, ⊎_elim, List, [], ◌∷◌, ◌++◌, length, find, cond, refl, sym, ap, ap₂, subst, ◌∙◌, eqb-true, eq-eqb, arith}
+use Rattle.std.proofs.Common.{◌≡◌, ℕ, ◌+◌, Bool, true, false, ◌||◌, ◌==◌, inl, inr, ⊎_elim, List, [], ◌∷◌, ◌++◌, length, find, cond, refl, sym, ap, ap₂, subst, ◌∙◌, eqb-true, eq-eqb}
 use Rattle.std.specs.Prelude.{Option, Some, None, IsTrue, nat_le}
 use Rattle.std.specs.List.{list_any}
 use Rattle.std.proofs.lemmas.Bool.{cases_Bool, cond_both, and_from, or_parts}
@@ -60,23 +60,8 @@ free_lies s k u free h = ⊎_elim (λ i. rw (region_found s k ∙ find_none (is_
 added_all : (s : State) (p : ℕ) (r : Region) → all_of (add_region s p r).processes ≡ (splits s.processes p).before ++ (regions_of (change_process (with_region r) (entry s.processes p)) ++ (splits s.processes p).after)
 added_all s p r = (splits s.processes p).set (change_process (with_region r) (entry s.processes p)) (λ e. ap (λ (o : Option Process). regions_of (change_process (with_region r) o)) e)
 
-in_order_few : (r : Region) (rs : List Region) → length (add_in_order extent_of r rs) ≡ length rs + 1
-in_order_few r [] = omega arith
-in_order_few r (q ∷ rs) = cond_both (nat_le (q.start + q.pages) r.start) (q ∷ add_in_order extent_of r rs) (r ∷ q ∷ rs) (λ l. length l ≡ length (q ∷ rs) + 1) (λ _. omega (arith, in_order_few r rs)) (λ _. omega arith)
-
-entry_few : (r : Region) (o : Option Process) → length (regions_of (change_process (with_region r) o)) ≤ length (regions_of o) + 1
-entry_few r None = omega arith
-entry_few r (Some p) = omega (arith, in_order_few r p.regions)
-
 pub numbers_few : (s : State) → length (numbers s) ≡ length (all_of s.processes) + length s.orphans
 numbers_few s = ap (λ l. length (l ++ orphan_numbers s.orphans)) (joined_numbers s.processes) ∙ simp (length-append, length-map)
-
-pub added_numbers : (s : State) (p : ℕ) (r : Region) → length (numbers (add_region s p r)) ≤ length (numbers s) + 1
-added_numbers s p r =
-    let parts = splits s.processes p in
-    let new = simp length-append at (ap length (added_all s p r)) in
-    let old = simp length-append at (ap length parts.whole) in
-    omega (arith, numbers_few s, numbers_few (add_region s p r), new, old, entry_few r (entry s.processes p))
 
 -- a region with a number that is free is added
 module _ (s : State) (p : ℕ) (r : Region) (free : IsFree s r.number) where

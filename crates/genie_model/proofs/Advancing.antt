@@ -1,5 +1,5 @@
 -- A send step stages or sends bytes of the first transfer that waits for its device.
-use Rattle.std.proofs.Common.{◌≡◌, ℕ, ◌+◌, ◌-◌, ◌<◌, ◌≤◌, Bool, true, false, ◌==◌, ◌⊎◌, inl, inr, ⊎_elim, List, [], ◌∷◌, ◌++◌, length, refl, sym, ap, subst, ◌∙◌, eqb-true, true≢false, arith}
+use Rattle.std.proofs.Common.{◌≡◌, ℕ, ◌+◌, ◌-◌, ◌<◌, ◌≤◌, true, false, ◌==◌, ◌⊎◌, inl, inr, ⊎_elim, List, [], ◌∷◌, ◌++◌, length, refl, sym, ap, subst, ◌∙◌, eqb-true, true≢false, arith}
 use Rattle.std.specs.Prelude.{Option, Some, None, slice_set, nat_lt, All, if◌then◌else◌}
 use Rattle.std.proofs.lemmas.Bool.{cases_Bool, cond_both, cond-false, and_parts, and_cases, ltb-false, eqb-false, cases_lt}
 use Rattle.std.proofs.lemmas.List.Elements.{All-head}
@@ -67,10 +67,6 @@ none later = []
 abbrev pub TurnTo : ℕ → State → State → Type 0
 TurnTo d s t = Turn d s (queue d t.transfers) (sent_of t d) none
 
-choice : (d : ℕ) (s : State) (b : Bool) (x y : Outcome) → (b ≡ true → TurnTo d s x.0) → (b ≡ false → TurnTo d s y.0) → TurnTo d s (if b then x else y).0
-choice d s true x y g h = g refl
-choice d s false x y g h = h refl
-
 -- the device's own step
 pub send_here : (d : ℕ) (s : State) (n : ℕ) (v : Device) → IsOrderly s → AreWaiting (queue d s.transfers) → entry s.devices d ≡ Some v → (first : Option Transfer) → first_queued s d ≡ first → TurnTo d s (send_next s d n first).0
 send_here d s n v o w there None e = still refl refl (λ later. refl)
@@ -80,7 +76,7 @@ send_here d s n v o w there (Some t) e =
     let lies = All-head (λ (t : Transfer). Lies s t t.region) (plain t) here.rest (subst (All (λ (t : Transfer). Lies s t t.region)) here.first (queue_lies d s o)) in
     let found = (find_has (waits_for d) s.transfers t e).1 in
     let both = and_parts (is_queued t.phase) (t.device == d) found in
-    choice d s (must_stage s d t) _ _
+    cond_both (must_stage s d t) _ _ (λ (o : Outcome). TurnTo d s o.0)
     (λ _.
     let k : ℕ = stage_count n t in
     stages (plain t) here.rest k (staged_now s k t) here.first (omega arith) (weak_staged s t o waits lies k (omega arith) t.class refl waits.bytes)

@@ -1,6 +1,6 @@
 -- Regions that are apart: one more in its place, fewer of them, and others at the same pages.
 use Rattle.std.proofs.Common.{◌≡◌, ℕ, suc, ◌+◌, ◌<◌, ◌≤◌, Bool, true, false, List, [], ◌∷◌, length, map, filter, refl, ap, arith}
-use Rattle.std.specs.Prelude.{cond, nat_le, sum_by, All, AllPairs}
+use Rattle.std.specs.Prelude.{cond, nat_le, sum_by, All}
 use Rattle.std.proofs.lemmas.Bool.{cond_both}
 use Rattle.std.proofs.lemmas.Bool.Decides.{nat_tests}
 use Rattle.std.proofs.lemmas.List.Elements.{All-cons, All-head, All-tail, All-map, All-weaker, All-filter}
@@ -12,6 +12,7 @@ use Rattle.genie_base.specs.Regions.{Extent, AreInOrder, add_in_order, is_apart}
 use Rattle.genie_model.specs.Orderly.{IsRegion, AreApart}
 use Rattle.genie_model.specs.Regions.{extent_of}
 use Rattle.genie_model.specs.State.{Region}
+use Rattle.genie_model.proofs.Having.{pairs_all, pairs_tail}
 
 -- sums where every number falls or stays, and of fewer numbers
 pub mapped_sum : {X : Type 0} (f : X → ℕ) (g : X → X) → ((x : X) → f (g x) ≤ f x) → (xs : List X) → sum_by f (map g xs) ≤ sum_by f xs
@@ -23,13 +24,6 @@ filtered_sum f p [] = omega arith
 filtered_sum f p (x ∷ xs) =
     let rest = filtered_sum f p xs in
     elim (p x) as (λ b. sum_by f (cond b (x ∷ filter p xs) (filter p xs)) ≤ sum_by f (x ∷ xs)) [ true ↦ omega (arith, sum_by-cons f x (filter p xs), sum_by-cons f x xs) | false ↦ omega (arith, sum_by-cons f x xs) ]
-
--- the first one is so with all others, and they with each other
-pub pairs_head : {X : Type 0} (R : X → X → Type 0) (x : X) (xs : List X) → AllPairs R (x ∷ xs) → All (R x) xs
-pairs_head R x xs h k d l = h 0 (suc k) d (omega arith) (omega arith)
-
-pub pairs_tail : {X : Type 0} (R : X → X → Type 0) (x : X) (xs : List X) → AllPairs R (x ∷ xs) → AllPairs R xs
-pairs_tail R x xs h i j d l m = h (suc i) (suc j) d (omega arith) (omega arith)
 
 module _ {X : Type 0} (extent : X → Extent) where
   abbrev pub Before : X → X → Type 0
@@ -65,7 +59,7 @@ module _ {X : Type 0} (extent : X → Extent) where
   order_added x [] free order = AllPairs-cons Before x [] (λ k d l. absurd (omega arith)) order
   order_added x (y ∷ ys) free order =
       let Free : X → Type 0 = λ z. clear x z ≡ true in
-      let later : All (Before y) ys = pairs_head Before y ys order in
+      let later : All (Before y) ys = pairs_all Before y ys order in
       cond_both (nat_le ((extent y).start + (extent y).pages) (extent x).start) (y ∷ add_in_order extent x ys) (x ∷ y ∷ ys) (AreInOrder extent)
       (λ early. AllPairs-cons Before y (add_in_order extent x ys) (all_added (Before y) x ys (front x y early) later) (order_added x ys (All-tail Free y ys free) (pairs_tail Before y ys order)))
       (λ late.

@@ -1,5 +1,5 @@
 -- Bytes beside those that are stored stay, and so do all bytes of orphans of which nothing is to be cut.
-use Rattle.std.proofs.Common.{◌≡◌, ℕ, zero, suc, ◌+◌, ◌<◌, ◌≤◌, Bool, true, false, ◌&&◌, ◌⊎◌, inl, inr, ⊎_elim, List, [], ◌∷◌, ◌++◌, length, map, filter, find, All, refl, sym, ap, ap₂, subst, ◌∙◌, eqb-true, arith}
+use Rattle.std.proofs.Common.{◌≡◌, ℕ, zero, suc, ◌+◌, ◌<◌, ◌≤◌, Bool, true, false, ◌&&◌, ◌⊎◌, inl, inr, ⊎_elim, List, [], ◌∷◌, length, map, filter, All, refl, sym, ap, ap₂, subst, ◌∙◌, eqb-true, arith, ◌++◌}
 use Rattle.std.specs.Prelude.{Option, Some, None, slice_index, nat_le, nat_lt, ◌-◌, ◌==◌}
 use Rattle.std.specs.Option.{option_map}
 use Rattle.std.specs.List.{list_any}
@@ -9,11 +9,11 @@ use Rattle.std.proofs.lemmas.List.Elements.{All-head, All-tail, All-map, All-wea
 use Rattle.genie_base.specs.Bytes.{overlaid, part}
 use Rattle.genie_model.specs.State.{State, Region, Orphan, Transfer}
 use Rattle.genie_model.specs.Pending.{covers}
-use Rattle.genie_model.specs.Regions.{is_region, is_orphan, region_numbered, orphan_numbered, is_within_range, byte_within, bytes_within, orphan_part, region_part, bytes_of, changed, with_bytes, stored_at, stored_in_orphan, put}
+use Rattle.genie_model.specs.Regions.{is_orphan, region_numbered, orphan_numbered, is_within_range, byte_within, bytes_within, orphan_part, region_part, bytes_of, changed, with_bytes, stored_at, stored_in_orphan, put}
 use Rattle.genie_model.specs.Space.{cut, is_named, tidy}
-use Rattle.genie_model.proofs.Changing.{put_in_place}
-use Rattle.genie_model.proofs.Finding.{all_of, region_found}
-use Rattle.genie_model.proofs.Having.{find_has, find_map}
+use Rattle.genie_model.proofs.Changing.{place_found, put_orphan, put_in_place}
+use Rattle.genie_model.proofs.Finding.{number_has}
+use Rattle.genie_model.proofs.Having.{find_has}
 use Rattle.genie_model.proofs.Ordered.{stored_place}
 
 -- place y is none of the n from place x on
@@ -54,13 +54,8 @@ module _ (k x j y : ℕ) (new : List ℕ) (out : j ≡ k → IsOutside x (length
 
   pub put_beside : (s : State) → bytes_of (put s k x new) j y 1 ≡ bytes_of s j y 1
   put_beside s =
-      let region_same = λ (r : Region). cond_both (r.number == k) (with_bytes x new r) r (λ (q : Region). is_region j q ≡ is_region j r) (λ _. refl) (λ _. refl) in
-      let orphan_same = λ (o : Orphan). cond_both (o.number == k) (record o { bytes = map (stored_at x new) o.bytes }) o (λ (q : Orphan). is_orphan j q ≡ is_orphan j o) (λ _. refl) (λ _. refl) in
-      let region : region_numbered (put s k x new) j ≡ option_map (changed k (with_bytes x new)) (region_numbered s j) =
-      region_found (put s k x new) j ∙ ap (find (is_region j)) (put_in_place s k x new).all ∙ find_map (is_region j) (changed k (with_bytes x new)) region_same (all_of s.processes) ∙ ap (option_map (changed k (with_bytes x new))) (sym (region_found s j)) in
-      let orphan : orphan_numbered (put s k x new) j ≡ option_map (stored_in_orphan k x new) (orphan_numbered s j) = find_map (is_orphan j) (stored_in_orphan k x new) orphan_same s.orphans in
-      ap₂ (λ r o. region_part y 1 r (orphan_part y 1 o)) region orphan
-      ∙ region_beside (region_numbered s j) _ _ (λ r e. (find_has (is_region j) (all_of s.processes) r (sym (region_found s j) ∙ e)).1) (orphan_beside (orphan_numbered s j) (λ o e. (find_has (is_orphan j) s.orphans o e).1))
+      ap₂ (λ r o. region_part y 1 r (orphan_part y 1 o)) (place_found s (put s k x new) k (with_bytes x new) (put_in_place s k x new) j) (put_orphan s k x new j)
+      ∙ region_beside (region_numbered s j) _ _ (λ r e. (number_has s j r e).1) (orphan_beside (orphan_numbered s j) (λ o e. (find_has (is_orphan j) s.orphans o e).1))
 
 -- pending weak transfers name the orphan and cover its places
 abbrev pub IsNeat : List Transfer → Orphan → Type 0

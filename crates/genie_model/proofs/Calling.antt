@@ -1,15 +1,14 @@
 -- What transfers name stays there in calls, and so does what the new one names.
-use Rattle.std.proofs.Common.{◌≡◌, ℕ, zero, suc, ◌*◌, ◌<◌, ◌≤◌, true, false, not, ◌||◌, ◌==◌, inl, inr, List, [], ◌∷◌, ◌++◌, length, refl, sym, ap, subst, ◌∙◌, eqb-true, true≢false, mul_comm, arith}
+use Rattle.std.proofs.Common.{◌≡◌, ℕ, ◌*◌, ◌≤◌, true, false, not, ◌||◌, ◌==◌, inl, inr, List, [], ◌∷◌, ◌++◌, length, refl, sym, ap, subst, ◌∙◌, eqb-true, true≢false, mul_comm, arith}
 use Rattle.std.specs.Prelude.{Option, Some, None, is_some}
 use Rattle.std.specs.List.{list_any}
 use Rattle.std.proofs.lemmas.Bool.{and_parts, and_right, or_from, not-true, false_from_ne_true}
 use Rattle.std.proofs.lemmas.List.{length-replicate}
 use Rattle.genie_base.specs.Configs.{Fits}
-use Rattle.genie_base.specs.Counts.{is_page_size}
 use Rattle.genie_base.specs.Posted.{Address}
 use Rattle.genie_base.specs.Transfers.{is_system}
 use Rattle.genie_base.specs.declared.region.RegionState.{RegionState}
-use Rattle.genie_base.specs.declared.region.RegionState.TheVariants.{Out, In, Held}
+use Rattle.genie_base.specs.declared.region.RegionState.TheVariants.{In, Held}
 use Rattle.genie_base.specs.declared.semantics.Class.{Class}
 use Rattle.genie_base.specs.declared.semantics.Class.TheVariants.{Copy, Share, Move, WeakMove}
 use Rattle.genie_model.specs.State.{State, Region, Process, Transfer}
@@ -17,20 +16,18 @@ use Rattle.genie_model.specs.Tables.{entry}
 use Rattle.genie_model.specs.Regions.{regions_at, queue_of, is_region, region_numbered, fresh, reach_of, with_state}
 use Rattle.genie_model.specs.Pending.{is_just, names, add_transfer}
 use Rattle.genie_model.specs.Space.{zeros_at_place, add_region, is_move}
-use Rattle.genie_model.specs.Outputs.{place_reached, number_of, output_of, moved_out, after_output}
+use Rattle.genie_model.specs.Outputs.{place_reached, number_of, output_of, give_up}
 use Rattle.genie_model.specs.Inputs.{pages_for, input_of, has_pages, is_reusable, reusable, moved_in, weak_buffer, with_buffer, number_or_fresh, posted, address_or_zero}
-use Rattle.genie_model.specs.Orderly.{LiesInRegion, Lies, moves_into, NumbersDiffer, IsOrderly}
-use Rattle.genie_model.proofs.Having.{Has, all_has, find_has, any_has, none_from, none_has, any_append}
-use Rattle.genie_model.proofs.Finding.{all_of, region_found, has_region, differ, only_region}
+use Rattle.genie_model.specs.Orderly.{LiesInRegion, Lies, moves_into, IsOrderly}
+use Rattle.genie_model.proofs.Having.{all_has, find_has, any_has, none_from, none_has, any_append}
+use Rattle.genie_model.proofs.Finding.{has_region, found_at}
 use Rattle.genie_model.proofs.Standing.{Fine, AreFine, accessible_free}
 use Rattle.genie_model.proofs.Changing.{place_keeps_lies}
 use Rattle.genie_model.proofs.Adding.{IsFree, free_lies, added_found, added_held}
 use Rattle.genie_model.proofs.Naming.{Joins, stand_push, fine_in}
-use Rattle.genie_model.proofs.Staying.{Stands, state_stands, remove_stands, add_stands, moved_out_place, moved_in_place, fresh_free, Reaches, reached, region_is}
+use Rattle.genie_model.proofs.Staying.{Stands, state_stands, add_stands, moved_in_place, fresh_free, Reaches, reached, region_is, give_up_stands}
 use Rattle.genie_model.proofs.Unused.{few_numbers}
-
-found_at : (s : State) → NumbersDiffer s → (r : Region) → Has r (all_of s.processes) → region_numbered s r.number ≡ Some r
-found_at s differs r there = region_found s r.number ∙ only_region s.orphans (all_of s.processes) (differ s differs) r there
+use Rattle.genie_model.proofs.Accepted.{page_some}
 
 joins_none : (transfers : List Transfer) (u : Transfer) → u.region ≡ None → Joins transfers u
 joins_none transfers u none = λ k e. absurd (true≢false (sym (rw none at e)))
@@ -53,39 +50,35 @@ module _ (s : State) (p : ℕ) (to : Address) (a n : ℕ) (r : Region) (o : IsOr
   reached_free = accessible_free s s.transfers o.numbers h.each r reaches.there reaches.accessible
 
   reached_lies : (u : Transfer) → u.offset ≡ place_reached s (Some r) a → u.len ≡ n → Lies s u (Some r.number)
-  reached_lies u offset len = inl (rw (found_at s o.numbers r reaches.there, offset, len) reaches.within)
+  reached_lies u offset len = inl (rw (found_at s o.numbers r reaches.there r.number refl, offset, len) reaches.within)
 
   still_free : (u : Transfer) → moves_into r.number u ≡ false → list_any (moves_into r.number) (s.transfers ++ u ∷ []) ≡ false
   still_free u not_moved = any_append (moves_into r.number) s.transfers (u ∷ []) ∙ or_from (list_any (moves_into r.number) s.transfers) (moves_into r.number u || false) reached_free (or_from (moves_into r.number u) false not_moved refl)
 
-  output_reached : (class : Class) → Stands (after_output (add_transfer s (output_of s p class to a n (Some r))) class (Some r))
+  output_reached : (class : Class) → Stands (give_up (add_transfer s (output_of s p class to a n (Some r))) class (Some r))
   output_reached Copy = let u = output_of s p Copy to a n (Some r) in push_stands s (add_transfer s u) u refl tt (joins_none s.transfers u refl) h
   output_reached Share = let u = output_of s p Share to a n (Some r) in push_stands s (add_transfer s u) u refl (reached_lies u refl refl) (joins_weak s.transfers u r.number refl refl reached_free) h
   output_reached Move =
       let u = output_of s p Move to a n (Some r) in
       let t = add_transfer s u in
-      remove_stands t t.transfers (push_stands s t u refl (λ inward. absurd (true≢false (sym inward))) (joins_none s.transfers u refl) h) o.numbers r reaches.there (still_free u refl)
+      give_up_stands t (push_stands s t u refl (λ inward. absurd (true≢false (sym inward))) (joins_none s.transfers u refl) h) o.numbers Move r reaches.there (still_free u refl)
   output_reached WeakMove =
       let u = output_of s p WeakMove to a n (Some r) in
       let t = add_transfer s u in
-      state_stands t t.transfers (push_stands s t u refl (reached_lies u refl refl) (joins_weak s.transfers u r.number refl refl reached_free) h) (moved_out t r.number) r.number (with_state Out) (moved_out_place t r.number) (still_free u refl)
+      give_up_stands t (push_stands s t u refl (reached_lies u refl refl) (joins_weak s.transfers u r.number refl refl reached_free) h) o.numbers WeakMove r reaches.there (still_free u refl)
 
   share_reached : (u : Transfer) → u ≡ input_of s p Share to n None (Some r.number) (place_reached s (Some r) a) → Stands (add_transfer s u)
   share_reached u is = rw is (
       let v = input_of s p Share to n None (Some r.number) (place_reached s (Some r) a) in
       push_stands s (add_transfer s v) v refl (reached_lies v refl refl) (joins_weak s.transfers v r.number refl refl reached_free) h)
 
-pub output_stands : (s : State) (p : ℕ) (class : Class) (to : Address) (a n : ℕ) (found : Option Region) → IsOrderly s → reach_of s p a n ≡ found → is_some found ≡ true → Stands s → Stands (after_output (add_transfer s (output_of s p class to a n found)) class found)
+pub output_stands : (s : State) (p : ℕ) (class : Class) (to : Address) (a n : ℕ) (found : Option Region) → IsOrderly s → reach_of s p a n ≡ found → is_some found ≡ true → Stands s → Stands (give_up (add_transfer s (output_of s p class to a n found)) class found)
 output_stands s p class to a n (Some r) o e here h = output_reached s p to a n r o e h class
 output_stands s p class to a n None o e here h = absurd (true≢false (sym here))
 
 share_stands : (s : State) (p : ℕ) (to : Address) (a n : ℕ) (found : Option Region) → IsOrderly s → reach_of s p a n ≡ found → is_some found ≡ true → Stands s → Stands (add_transfer s (input_of s p Share to n None (number_of found) (place_reached s found a)))
 share_stands s p to a n None o e here h = absurd (true≢false (sym here))
 share_stands s p to a n (Some r) o e here h = share_reached s p to a n r o e h (input_of s p Share to n None (Some r.number) (place_reached s (Some r) a)) refl
-
-page_some : (page : ℕ) → is_page_size page ≡ true → 0 < page
-page_some zero e = absurd (cc)
-page_some (suc n) e = omega arith
 
 enough : (s : State) (n : ℕ) → Fits s.config → n ≤ pages_for s n * s.config.page
 enough s n fits = let some = page_some s.config.page fits.page in omega (arith, some, mul_comm s.config.page (pages_for s n))
@@ -129,7 +122,7 @@ module _ (s : State) (p : ℕ) (to : Address) (n : ℕ) (o : IsOrderly s) (x : P
       let some = any_has (has_pages k pages) (regions_at s p) both.0 in
       let r = some.0 in
       let is = and_parts (is_region k r) (r.pages == pages) some.2 in
-      let there = subst (λ j. region_numbered s j ≡ Some r) (eqb-true r.number k is.0) (found_at s o.numbers r (has_region s p r some.1)) in
+      let there = found_at s o.numbers r (has_region s p r some.1) k (eqb-true r.number k is.0) in
       let bytes = (region_is s.config.page s.processes o.regions p r some.1).bytes in
       let all = enough s n o.config in
       let long : pages * s.config.page ≡ length r.bytes = ap (λ j. j * s.config.page) (sym (eqb-true r.pages pages is.1)) ∙ sym bytes in

@@ -1,19 +1,19 @@
 -- The first cause of several lists, and what is known where there is none.
-use Rattle.std.proofs.Common.{◌≡◌, ℕ, ◌+◌, ◌*◌, ◌<◌, ◌≤◌, Bool, true, false, not, List, [], ◌∷◌, ◌++◌, length, refl, arith}
-use Rattle.std.specs.Prelude.{Option, Some, None, IsSome, cond, find, nat_le, nat_lt, ◌&&◌, is_some}
+use Rattle.std.proofs.Common.{◌≡◌, ℕ, ◌*◌, ◌<◌, ◌≤◌, Bool, true, false, not, List, [], ◌∷◌, ◌++◌, length, refl, arith, leb-true}
+use Rattle.std.specs.Prelude.{Option, Some, None, cond, find, nat_le, ◌&&◌, is_some, All}
 use Rattle.std.specs.Option.{option_map}
-use Rattle.std.proofs.lemmas.Bool.Decides.{nat_tests}
+use Rattle.std.proofs.lemmas.Bool.{and_parts, not-false, leb-false}
+use Rattle.std.proofs.lemmas.List.Elements.{All-nil, All-cons}
 use Rattle.genie_base.specs.Configs.{DeviceConfig, most}
 use Rattle.genie_base.specs.declared.config.Kind.{Kind}
 use Rattle.genie_base.specs.declared.config.Kind.TheVariants.{Early, Pooled, Outboard}
 use Rattle.genie_base.specs.declared.refusal.Refusal.{Refusal}
-use Rattle.genie_base.specs.declared.refusal.Refusal.TheVariants.{Proc, Dev, Range, Denied, Regions, Space, Backing, Transfers, Frames}
+use Rattle.genie_base.specs.declared.refusal.Refusal.TheVariants.{Proc, Dev, Range}
 use Rattle.genie_base.specs.declared.semantics.Class.{Class}
 use Rattle.genie_base.specs.declared.semantics.Class.TheVariants.{Copy, Share, Move, WeakMove}
 use Rattle.genie_model.specs.State.{State}
-use Rattle.genie_model.specs.Regions.{regions_at, is_alive, place_of, reach_of, write_reach_of}
-use Rattle.genie_model.specs.Pending.{wired}
-use Rattle.genie_model.specs.Refusing.{first_cause, call_causes, new_region_causes, app_causes, sys_causes, buffer_causes, target_causes, must_make, most_of, has_input, over_backing, frames_to_wire}
+use Rattle.genie_model.specs.Regions.{regions_at, is_alive, reach_of}
+use Rattle.genie_model.specs.Refusing.{first_cause, call_causes, new_region_causes, app_causes, sys_causes, buffer_causes, target_causes, must_make, most_of, has_input}
 use Rattle.genie_model.specs.Inputs.{pages_for}
 use Rattle.genie_model.specs.Tables.{entry}
 
@@ -37,21 +37,18 @@ both_none (x ∷ xs) ys e =
     let later = both_none xs ys h.1 in
     (rw no later.0, later.1)
 
-not_false : (b : Bool) → not b ≡ false → b ≡ true
-not_false true e = refl
-not_false false e = absurd (cc)
+-- a cause that doesn't hold
+abbrev pub Fails : Bool × Refusal → Type 0
+Fails row = row.0 ≡ false
 
-left : (a b : Bool) → (a && b) ≡ true → a ≡ true
-left true b e = refl
-left false b e = absurd (cc)
+-- none of them holds
+pub none_holds : (rows : List (Bool × Refusal)) → first_cause rows ≡ None → All Fails rows
+none_holds [] e = All-nil Fails
+none_holds (row ∷ rows) e = let h = first_none row rows e in All-cons Fails row rows h.0 (none_holds rows h.1)
 
-right : (a b : Bool) → (a && b) ≡ true → b ≡ true
-right true b e = e
-right false b e = absurd (cc)
-
--- in a list of causes that begins with a test of a range, none of which holds
-pub range_passes : (a : Bool) (w : Refusal) (rest : List (Bool × Refusal)) → first_cause ((not a, w) ∷ rest) ≡ None → a ≡ true
-range_passes a w rest e = not_false a (first_none (not a, w) rest e).0
+-- nor does a test of two parts fail
+pub second_holds : (a b : Bool) → not (a && b) ≡ false → b ≡ true
+second_holds a b e = (and_parts a b (not-false (a && b) e)).1
 
 kind_end : (page : ℕ) (kind : Kind) → most kind page ≤ 64 * page
 kind_end page Early = omega arith
@@ -62,15 +59,9 @@ pub most_end : (page : ℕ) (d : Option DeviceConfig) → most_of page d ≤ 64 
 most_end page None = omega arith
 most_end page (Some d) = kind_end page d.kind
 
-at_most : (n m : ℕ) → nat_le n m ≡ true → n ≤ m
-at_most n m e = grind (arith, nat_tests)
-
-fewer : (n m : ℕ) → nat_le n m ≡ false → m < n
-fewer n m e = grind (arith, nat_tests)
-
 -- one more call fits
 pub few_calls : (s : State) (cost : ℕ) → first_cause (call_causes s cost) ≡ None → length s.transfers < 64
-few_calls s cost e = fewer 64 (length s.transfers) (first_none (nat_le 64 (length s.transfers), Transfers) ((nat_lt (frames_to_wire s) (wired s + cost), Frames) ∷ []) e).0
+few_calls s cost e = leb-false 64 (length s.transfers) (none_holds (call_causes s cost) e 0 (true, Proc) (omega arith))
 
 -- what is known of an input that is accepted
 pub record IsAcceptedInput (s : State) (p : ℕ) (class : Class) (n : ℕ) : Type 0 where
@@ -84,7 +75,7 @@ record HasRoom (s : State) (p : ℕ) (class : Class) (n most : ℕ) : Type 0 whe
   room : must_make s p class n ≡ true → length (regions_at s p) < 32
 
 few_regions : (s : State) (p pages : ℕ) → first_cause (new_region_causes s p pages) ≡ None → length (regions_at s p) < 32
-few_regions s p pages e = fewer 32 (length (regions_at s p)) (first_none (nat_le 32 (length (regions_at s p)), Regions) ((not (is_some (place_of s p pages)), Space) ∷ (over_backing s pages, Backing) ∷ []) e).0
+few_regions s p pages e = leb-false 32 (length (regions_at s p)) (none_holds (new_region_causes s p pages) e 0 (true, Proc) (omega arith))
 
 made : (s : State) (p pages : ℕ) (b : Bool) → first_cause (cond b (new_region_causes s p pages) []) ≡ None → b ≡ true → length (regions_at s p) < 32
 made s p pages true e t = few_regions s p pages e
@@ -93,13 +84,13 @@ made s p pages false e t = absurd (cc)
 sys_room : (s : State) (p : ℕ) (class : Class) (most n : ℕ) → first_cause (sys_causes s p class most n) ≡ None → HasRoom s p class n most
 sys_room s p class most n e =
     let fits : Bool = nat_le 1 n && nat_le n most in
-    let rest : List (Bool × Refusal) = cond (must_make s p class n) (new_region_causes s p (pages_for s n)) [] in
-    record { short = at_most n most (right (nat_le 1 n) (nat_le n most) (range_passes fits Range rest e)); room = made s p (pages_for s n) (must_make s p class n) (first_none (not fits, Range) rest e).1 }
+    let first = first_none (not fits, Range) (cond (must_make s p class n) (new_region_causes s p (pages_for s n)) []) e in
+    record { short = leb-true n most (second_holds (nat_le 1 n) (nat_le n most) first.0); room = made s p (pages_for s n) (must_make s p class n) first.1 }
 
 app_short : (s : State) (p most a n : ℕ) → first_cause (app_causes s p most a n) ≡ None → n ≤ most
 app_short s p most a n e =
     let fits : Bool = nat_le n most && is_some (reach_of s p a n) in
-    at_most n most (left (nat_le n most) (is_some (reach_of s p a n)) (range_passes fits Range ((not (is_some (write_reach_of s p a n)), Denied) ∷ []) e))
+    leb-true n most (and_parts (nat_le n most) (is_some (reach_of s p a n)) (not-false fits (none_holds (app_causes s p most a n) e 0 (true, Proc) (omega arith)))).0
 
 buffer_room : (s : State) (p : ℕ) (class : Class) (most a n : ℕ) → first_cause (buffer_causes s p class most a n) ≡ None → HasRoom s p class n most
 buffer_room s p Copy most a n e = record { short = app_short s p most a n e; room = λ t. absurd (cc) }

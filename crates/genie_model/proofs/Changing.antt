@@ -91,9 +91,12 @@ stored_lies k x new u None h = h
 stored_lies k x new u (Some o) h = λ y low high. cond_both (o.number == k) (record o { bytes = map (stored_at x new) o.bytes }) o (λ (q : Orphan). has_place y q ≡ true)
     (λ _. any_map (λ (e : ℕ × ℕ). e.0 == y) (λ (e : ℕ × ℕ). e.0 == y) (stored_at x new) (stored_place x y new) o.bytes (h y low high)) (λ _. h y low high)
 
+pub put_orphan : (s : State) (k x : ℕ) (new : List ℕ) (j : ℕ) → orphan_numbered (put s k x new) j ≡ option_map (stored_in_orphan k x new) (orphan_numbered s j)
+put_orphan s k x new j = find_map (is_orphan j) (stored_in_orphan k x new) (stored_number k x j new) s.orphans
+
 pub put_in_place : (s : State) (k x : ℕ) (new : List ℕ) → InPlace s (put s k x new) k (with_bytes x new)
 put_in_place s k x new = in_place_by s (put s k x new) k (with_bytes x new) (changed_in k (with_bytes x new)) refl (λ p. refl) (λ r. refl) (λ r. length-overlaid x new r.bytes)
-    (λ u j h. rw (find_map (is_orphan j) (stored_in_orphan k x new) (stored_number k x j new) s.orphans) (stored_lies k x new u (orphan_numbered s j) h))
+    (λ u j h. rw (put_orphan s k x new j) (stored_lies k x new u (orphan_numbered s j) h))
 
 placed_has : (x y : ℕ) (bytes : List ℕ) → x ≤ y → y < x + length bytes → list_any (λ (e : ℕ × ℕ). e.0 == y) (placed x bytes) ≡ true
 placed_has x y [] low high = absurd (omega arith)

@@ -5,18 +5,15 @@ use Rattle.std.specs.Prelude.{Option, Some, None, ◌==◌, if◌then◌else◌}
 use Rattle.std.specs.List.{range_with_len}
 use Rattle.genie_base.specs.declared.event.Event.{Event}
 use Rattle.genie_base.specs.declared.event.Event.TheVariants.{Send, Recv}
-use Rattle.genie_base.specs.declared.refusal.Refusal.{Refusal}
-use Rattle.genie_base.specs.declared.reply.Mark.{Mark}
-use Rattle.genie_base.specs.declared.reply.Mark.TheVariants as mark
 use Rattle.genie_base.specs.declared.reply.Reply.{Reply}
 use Rattle.genie_base.specs.declared.reply.Reply.TheVariants as reply
 use Rattle.genie_base.specs.Events.{mark_of}
 use Rattle.genie_model.specs.State.{State, Transfer}
 use Rattle.genie_model.specs.Space.{Outcome}
 use Rattle.genie_model.specs.Laws.{id_of, ids, RunsCount}
-use Rattle.genie_model.specs.Refusing.{refuse}
-use Rattle.genie_model.specs.Step.{answer, marked, accept, failed, may_fail, uses_store, step}
+use Rattle.genie_model.specs.Step.{accept, failed, may_fail, step}
 use Rattle.genie_model.proofs.Keeping.{Did, call_of, accept_did}
+use Rattle.genie_model.proofs.Stepping.{outcome_so}
 
 -- one step's part
 record Counted (s : State) (o : Outcome) : Type 0 where
@@ -42,15 +39,6 @@ failed_counted s (Send d n) k t = moved_counted s _ k (accept_did s (Send d k)).
 failed_counted s (Recv d n) k t = moved_counted s _ k (accept_did s (Recv d k)).keeps.next
 failed_counted s e k t = absurd (cc)
 
-marked_counted : (s : State) (e : Event) (m : Mark) → Counted s (marked s e m)
-marked_counted s e mark.NoFault = accept_counted s e
-marked_counted s e mark.Store = cond_both (uses_store e) (s, reply.StoreFault) (accept s e) (Counted s) (λ t. none s s _ refl refl) (λ f. accept_counted s e)
-marked_counted s e (mark.Device k) = cond_both (may_fail s e k) (failed s e k) (accept s e) (Counted s) (failed_counted s e k) (λ f. accept_counted s e)
-
-answer_counted : (s : State) (e : Event) (m : Mark) (o : Option Refusal) → Counted s (answer s e m o)
-answer_counted s e m None = marked_counted s e m
-answer_counted s e m (Some refusal) = none s s _ refl refl
-
 range_append : (a m n : ℕ) → range_with_len a m ++ range_with_len (a + m) n ≡ range_with_len a (m + n)
 range_append a zero n = let e : a + 0 ≡ a = omega arith in let f : 0 + n ≡ n = omega arith in rw (e, f) refl
 range_append a (suc m) n =
@@ -62,7 +50,7 @@ pub runs_count : RunsCount
 runs_count s [] [] last f = record { numbers = refl; next = rw (← f) (omega arith) }
 runs_count s (e ∷ es) (r ∷ rs) last f =
     let next : State = (step s e (mark_of r)).0 in
-    let one : Counted s (next, r) = subst (λ (x : Reply). Counted s (next, x)) f.0 (answer_counted s e (mark_of r) (refuse s e)) in
+    let one : Counted s (next, r) = subst (λ (x : Reply). Counted s (next, x)) f.0 (outcome_so (Counted s) s e (λ w. none s s _ refl refl) (none s s _ refl refl) (λ _. accept_counted s e) (λ _. failed_counted s e) (mark_of r)) in
     let rest = runs_count next es rs last f.1 in
     let first : List ℕ = id_of r in
     let numbers = one.numbers in

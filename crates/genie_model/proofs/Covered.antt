@@ -1,12 +1,12 @@
 -- What a receive step does: it stores the payload's bytes where a pending weak input covers their places, and devices receive for inputs alone.
-use Rattle.std.proofs.Common.{◌≡◌, ◌⊎◌, ℕ, ◌+◌, ◌-◌, ◌<◌, ◌≤◌, Bool, true, false, inl, inr, ⊎_elim, List, [], ◌∷◌, ◌++◌, length, get_or, find, All, AllPairs, refl, sym, ap, subst, ◌∙◌, true≢false, eqb-true, le-leb, lt-ltb, eq-eqb, arith}
+use Rattle.std.proofs.Common.{◌≡◌, ◌⊎◌, ℕ, ◌+◌, ◌-◌, ◌<◌, ◌≤◌, Bool, true, false, inl, inr, ⊎_elim, List, [], ◌++◌, length, get_or, find, All, AllPairs, refl, sym, ap, subst, ◌∙◌, true≢false, eqb-true, le-leb, lt-ltb, eq-eqb, arith}
 use Rattle.std.specs.Prelude.{Option, Some, None, IfSome, take, drop, nat_le, nat_lt, ◌==◌, ◌&&◌, if◌then◌else◌}
 use Rattle.std.specs.Option.{option_map}
 use Rattle.std.proofs.lemmas.Bool.{cond_both, and_parts, and_from}
 use Rattle.std.proofs.lemmas.Bool.Decides.{nat_tests}
-use Rattle.genie_base.specs.declared.reply.Reply.TheVariants as reply
 use Rattle.std.proofs.lemmas.List.{length-take, length-drop}
 use Rattle.std.proofs.lemmas.List.Elements.{All-weaker}
+use Rattle.genie_base.specs.declared.reply.Reply.TheVariants as reply
 use Rattle.genie_base.specs.Bytes.{part}
 use Rattle.genie_base.specs.Configs.{most}
 use Rattle.genie_base.specs.Headers.{header_taken, is_whole_header, is_valid_header, port_in, len_in, flow_in}
@@ -28,10 +28,11 @@ use Rattle.genie_model.specs.Step.{accept}
 use Rattle.genie_model.proofs.Arriving.{choice}
 use Rattle.genie_model.proofs.Behind.{part_taken, whole_taken, behind_header}
 use Rattle.genie_model.proofs.Beside.{IsNeat, neat_from_tidy, tidy_neat, neat_stored}
-use Rattle.genie_model.proofs.Having.{entry_set, Has, any_found, has_at, all_has, has_any, find_has, pairs_head, pairs_tail}
+use Rattle.genie_model.proofs.Having.{entry_set, Has, any_found, has_at, all_has, has_any, find_has}
 use Rattle.genie_model.proofs.Inside.{IsNew, put_gives}
 use Rattle.genie_model.proofs.Naming.{all_change, any_change}
 use Rattle.genie_model.proofs.Stepping.{event_so}
+use Rattle.genie_model.proofs.Queues.{same_number}
 
 -- what is known of a transfer later in the step that began in state s
 pub record IsKnown (s : State) (t : Transfer) : Type 0 where
@@ -68,20 +69,12 @@ pub record Received (s : State) (d : ℕ) (t : State) : Type 0 where
   pub neat : All (IsNeat t.transfers) t.orphans
   pub bytes : (k x : ℕ) → Shows s d k x (bytes_of t k x 1)
 
--- transfers of one number are one
-only_one : (ts : List Transfer) → AllPairs (λ (t u : Transfer). t.number < u.number) ts → (t u : Transfer) → Has t ts → Has u ts → t.number ≡ u.number → t ≡ u
-only_one [] order t u there here same = absurd there
-only_one (v ∷ ts) order t u (inl e) (inl f) same = sym e ∙ f
-only_one (v ∷ ts) order t u (inl e) (inr here) same = absurd (omega (arith, same, ap (λ (x : Transfer). x.number) e, pairs_head (λ (a b : Transfer). a.number < b.number) v ts order u here))
-only_one (v ∷ ts) order t u (inr there) (inl f) same = absurd (omega (arith, same, ap (λ (x : Transfer). x.number) f, pairs_head (λ (a b : Transfer). a.number < b.number) v ts order t there))
-only_one (v ∷ ts) order t u (inr there) (inr here) same = only_one ts (pairs_tail (λ (a b : Transfer). a.number < b.number) v ts order) t u there here same
-
 -- and it is what their number finds
 found_one : (s : State) → AllPairs (λ (t u : Transfer). t.number < u.number) s.transfers → (t : Transfer) → Has t s.transfers → pending s t.number ≡ Some t
 found_one s order t there =
     let found = any_found (is_numbered t.number) s.transfers (has_any (is_numbered t.number) t s.transfers there (eq-eqb t.number t.number refl)) in
     let has = find_has (is_numbered t.number) s.transfers found.0 found.1 in
-    found.1 ∙ ap Some (only_one s.transfers order found.0 t has.0 there (eqb-true found.0.number t.number has.1))
+    found.1 ∙ ap Some (same_number s.transfers order found.0 t has.0 there (eqb-true found.0.number t.number has.1))
 
 begun : (s : State) (d : ℕ) → IsOrderly s → Received s d s
 begun s d o = record {
@@ -89,7 +82,7 @@ begun s d o = record {
       let t = get_or s.transfers i e in
       let there = has_at s.transfers i e lt in
       record {
-        posted = λ p. (o.transfers.below i e lt, λ j c within same. subst (λ (u : Transfer). (is_inward u.direction ≡ true) × (u.device ≡ t.device)) (only_one s.transfers o.transfers.order t (get_or s.transfers j c) there (has_at s.transfers j c within) (sym same)) (o.posted i e lt p, refl));
+        posted = λ p. (o.transfers.below i e lt, λ j c within same. subst (λ (u : Transfer). (is_inward u.direction ≡ true) × (u.device ≡ t.device)) (same_number s.transfers o.transfers.order t (get_or s.transfers j c) there (has_at s.transfers j c within) (sym same)) (o.posted i e lt p, refl));
         input = λ d is. is.1 i e lt refl;
         before = t;
         was = found_one s o.transfers.order t there;
@@ -271,4 +264,4 @@ bytes_shown s d n k x o =
     subst (λ u. Shows s d k x (bytes_of u k x 1)) (sym (tidy_neat (recv s d n).0 r.neat)) (r.bytes k x)
 
 pub inputs_keep_integrity : InputsKeepIntegrity
-inputs_keep_integrity s d n m k x o = event_so (λ u. Shows s d k x (bytes_of u k x 1)) s (inl refl) (Recv d n) (bytes_shown s d n k x o) (λ b. bytes_shown s d b k x o) m
+inputs_keep_integrity s d n m k x o = event_so (λ u. Shows s d k x (bytes_of u k x 1)) s (inl refl) (Recv d n) (λ _. bytes_shown s d n k x o) (λ _ b. bytes_shown s d b k x o) m

@@ -1,16 +1,18 @@
 -- What the number of a region or an orphan finds, and what it finds where regions or orphans are changed.
-use Rattle.std.proofs.Common.{◌≡◌, ℕ, zero, suc, false, ◌==◌, inl, inr, List, [], ◌∷◌, ◌++◌, map, find, flat_map, AllPairs, ◌≢◌, refl, sym, ap, ap₂, subst, ◌∙◌, append_assoc, eqb-true, eq-eqb, ne_eqb}
-use Rattle.std.specs.Prelude.{Option, Some, None, slice_set}
-use Rattle.std.specs.Option.{option_flatten}
+use Rattle.std.proofs.Common.{◌≡◌, ℕ, zero, suc, false, ◌==◌, inl, inr, List, [], ◌∷◌, ◌++◌, map, find, flat_map, AllPairs, ◌≢◌, refl, sym, ap, ap₂, subst, ◌∙◌, append_assoc, eqb-true, eq-eqb, ne_eqb, true, Bool}
+use Rattle.std.specs.Prelude.{Option, Some, None, slice_set, ⊤}
+use Rattle.std.specs.Option.{option_flatten, option_and_then}
 use Rattle.std.specs.List.{list_any}
 use Rattle.std.proofs.lemmas.Bool.{cond_both, cond-true, cond-false, or_parts}
 use Rattle.std.proofs.lemmas.List.{map-append}
-use Rattle.genie_model.specs.State.{State, Region, Orphan, Process}
+use Rattle.genie_model.specs.State.{State, Region, Orphan, Process, Transfer}
 use Rattle.genie_model.specs.Tables.{entry}
-use Rattle.genie_model.specs.Regions.{regions_of, regions_at, is_region, is_orphan, has_number, region_numbered, change_process}
+use Rattle.genie_model.specs.Regions.{regions_of, regions_at, is_region, is_orphan, has_number, region_numbered, change_process, orphan_numbered}
 use Rattle.genie_model.specs.Space.{as_orphan, add_orphan, add_orphans}
 use Rattle.genie_model.specs.Orderly.{region_numbers, orphan_numbers, NumbersDiffer}
-use Rattle.genie_model.proofs.Having.{Has, or_next, has_left, has_right, has_map, none_from, find_append, find_first, find_none, none_found, find_put_other, find_put_here, pairs_head, pairs_tail, entry_map}
+use Rattle.genie_model.proofs.Having.{Has, or_next, has_left, has_right, has_map, none_from, find_append, find_first, find_none, none_found, find_put_other, find_put_here, pairs_head, pairs_tail, entry_map, find_has}
+use Rattle.genie_model.specs.Pending.{is_just}
+use Rattle.genie_model.specs.Ending.{region_of}
 
 abbrev pub all_of : List (Option Process) → List Region
 all_of processes = flat_map regions_of processes
@@ -25,6 +27,10 @@ found_joined k (p ∷ ps) = cond_both (has_number k p) (Some p) (find (has_numbe
 pub region_found : (s : State) (k : ℕ) → region_numbered s k ≡ find (is_region k) (all_of s.processes)
 region_found s k = found_joined k s.processes
 
+-- it is there, with that number
+pub number_has : (s : State) (k : ℕ) (r : Region) → region_numbered s k ≡ Some r → Has r (all_of s.processes) × (is_region k r ≡ true)
+number_has s k r e = find_has (is_region k) (all_of s.processes) r (sym (region_found s k) ∙ e)
+
 has_all : (ps : List (Option Process)) (p : ℕ) (r : Region) → Has r (regions_of (entry ps p)) → Has r (all_of ps)
 has_all [] p r h = absurd h
 has_all (x ∷ ps) zero r h = has_left r (regions_of x) (all_of ps) h
@@ -32,6 +38,26 @@ has_all (x ∷ ps) (suc p) r h = has_right r (regions_of x) (all_of ps) (has_all
 
 pub has_region : (s : State) (p : ℕ) (r : Region) → Has r (regions_at s p) → Has r (all_of s.processes)
 has_region s p r h = has_all s.processes p r h
+
+-- the region that a transfer names
+pub named_region : (s : State) (named : Option ℕ) (r : Region) → option_and_then (region_numbered s) named ≡ Some r → Has r (all_of s.processes) × (is_just named r.number ≡ true)
+named_region s None r e = absurd (cc)
+named_region s (Some k) r e = let f = number_has s k r e in (f.0, eq-eqb k r.number (sym (eqb-true r.number k f.1)))
+
+-- the region is one of the state
+abbrev pub IsThere : State → Option Region → Type 0
+IsThere s None = ⊤
+IsThere s (Some r) = Has r (all_of s.processes)
+
+is_there : (s : State) (o : Option Region) → ((r : Region) → o ≡ Some r → Has r (all_of s.processes)) → IsThere s o
+is_there s None h = tt
+is_there s (Some r) h = h r refl
+
+pub at_there : (s : State) (p : ℕ) (test : Region → Bool) → IsThere s (find test (regions_at s p))
+at_there s p test = is_there s (find test (regions_at s p)) (λ r e. has_region s p r (find_has test (regions_at s p) r e).0)
+
+pub region_there : (s : State) (t : Transfer) → IsThere s (region_of s t)
+region_there s t = is_there s (region_of s t) (λ r e. (named_region s t.region r e).0)
 
 -- where the regions of each process are changed, as by a map or a filter
 module _ (F : List Region → List Region) (empty : F [] ≡ []) (joins : (xs ys : List Region) → F (xs ++ ys) ≡ F xs ++ F ys) (g : Process → Process) (each : (p : Process) → (g p).regions ≡ F p.regions) where
@@ -95,6 +121,13 @@ module _ (os : List Orphan) where
   no_orphan (q ∷ rs) h r (inl e) = subst (λ (x : Region). list_any (is_orphan x.number) os ≡ false) e (none_from (is_orphan q.number) os
       (λ o there. ne_eqb o.number q.number (λ same. pairs_head (λ (a b : ℕ). a ≢ b) q.number (numbers_in rs ++ orphan_numbers os) h o.number (has_right o.number (numbers_in rs) (orphan_numbers os) (has_map (λ (x : Orphan). x.number) o os there)) (sym same))))
   no_orphan (q ∷ rs) h r (inr e) = no_orphan rs (pairs_tail (λ (a b : ℕ). a ≢ b) q.number (numbers_in rs ++ orphan_numbers os) h) r e
+
+module _ (s : State) (differs : NumbersDiffer s) (r : Region) (there : Has r (all_of s.processes)) (k : ℕ) (is : r.number ≡ k) where
+  pub found_at : region_numbered s k ≡ Some r
+  found_at = region_found s k ∙ subst (λ n. find (is_region n) (all_of s.processes) ≡ Some r) is (only_region s.orphans (all_of s.processes) (differ s differs) r there)
+
+  pub no_orphan_at : orphan_numbered s k ≡ None
+  no_orphan_at = find_none (is_orphan k) s.orphans (subst (λ n. list_any (is_orphan n) s.orphans ≡ false) is (no_orphan s.orphans (all_of s.processes) (differ s differs) r there))
 
 -- regions become orphans, one after the other
 pub orphans_beside : (k : ℕ) (rs : List Region) (os : List Orphan) → list_any (is_region k) rs ≡ false → find (is_orphan k) (add_orphans rs os) ≡ find (is_orphan k) os

@@ -1,31 +1,26 @@
 -- What transfers name stays there where a transfer ends.
-use Rattle.std.proofs.Common.{◌≡◌, ℕ, true, false, List, length, replicate, refl, sym, ◌∙◌, eqb-true, eq-eqb}
-use Rattle.std.specs.Prelude.{Option, Some, None, option_and_then}
+use Rattle.std.proofs.Common.{◌≡◌, ℕ, false, List, length, replicate, refl, ◌∙◌}
+use Rattle.std.specs.Prelude.{Option, Some, None}
 use Rattle.std.specs.List.{list_any}
 use Rattle.std.proofs.lemmas.Bool.{cond_both}
 use Rattle.std.proofs.lemmas.List.{length-replicate}
 use Rattle.genie_base.proofs.Overlaid.{length-overlaid}
-use Rattle.genie_base.specs.declared.region.RegionState.TheVariants.{Live, Out}
+use Rattle.genie_base.specs.declared.region.RegionState.TheVariants.{Live}
 use Rattle.genie_base.specs.declared.semantics.Class.{Class}
 use Rattle.genie_base.specs.declared.semantics.Class.TheVariants.{Copy, Share, Move, WeakMove}
 use Rattle.genie_base.specs.declared.semantics.Direction.{Direction}
 use Rattle.genie_base.specs.declared.semantics.Direction.TheVariants.{Outward, Inward}
 use Rattle.genie_model.specs.State.{State, Region, Transfer}
-use Rattle.genie_model.specs.Regions.{is_region, region_numbered, place_in, write_reach_of, changed_in, change_region, with_state, put}
-use Rattle.genie_model.specs.Pending.{is_early_at, is_numbered, is_just, pending}
-use Rattle.genie_model.specs.Outputs.{moved_out}
+use Rattle.genie_model.specs.Regions.{place_in, write_reach_of, changed_in, change_region, with_state, put}
+use Rattle.genie_model.specs.Pending.{is_early_at, is_numbered, pending}
+use Rattle.genie_model.specs.Outputs.{give_up}
 use Rattle.genie_model.specs.Inputs.{address_or_zero}
-use Rattle.genie_model.specs.Ending.{without_transfer, region_of, finish_copy, filled, finish_move, finish_share, finish_weak_move, finish_input, finish_owned, finish_for, finish_found, after_cancel, cancel_found}
+use Rattle.genie_model.specs.Ending.{without_transfer, region_of, finish_copy, filled, finish_move, finish_share, finish_weak_move, finish_input, finish_owned, finish_for, finish_found, cancel_found}
 use Rattle.genie_model.specs.Orderly.{moves_into, NumbersDiffer}
-use Rattle.genie_model.proofs.Having.{Has, find_has}
-use Rattle.genie_model.proofs.Finding.{all_of, region_found}
+use Rattle.genie_model.proofs.Finding.{named_region}
 use Rattle.genie_model.proofs.Changing.{InPlace, in_place_by}
 use Rattle.genie_model.proofs.Naming.{stand_without, none_left}
-use Rattle.genie_model.proofs.Staying.{Stands, put_stands, state_stands, remove_stands, live_place, moved_out_place}
-
-pub named_region : (s : State) (named : Option ℕ) (r : Region) → option_and_then (region_numbered s) named ≡ Some r → Has r (all_of s.processes) × (is_just named r.number ≡ true)
-named_region s None r e = absurd (cc)
-named_region s (Some k) r e = let f = find_has (is_region k) (all_of s.processes) r (sym (region_found s k) ∙ e) in (f.0, eq-eqb k r.number (sym (eqb-true r.number k f.1)))
+use Rattle.genie_model.proofs.Staying.{Stands, put_stands, state_stands, live_place, give_up_stands}
 
 pub filled_place : (s : State) (k : ℕ) (bytes : List ℕ) → InPlace s (change_region s k (filled bytes)) k (filled bytes)
 filled_place s k bytes = in_place_by s (change_region s k (filled bytes)) k (filled bytes) (changed_in k (filled bytes)) refl (λ p. refl) (λ r. refl)
@@ -67,12 +62,9 @@ module _ (s : State) (t : Transfer) (none : (r : Region) → region_of s t ≡ S
   for_stands None = h
   for_stands (Some p) = owned_stands p t.direction
 
-  cancel_stands : NumbersDiffer s → (class : Class) (o : Option Region) → region_of s t ≡ o → Stands (after_cancel s class o)
+  cancel_stands : NumbersDiffer s → (class : Class) (o : Option Region) → region_of s t ≡ o → Stands (give_up s class o)
   cancel_stands differs class None e = h
-  cancel_stands differs Copy (Some r) e = h
-  cancel_stands differs Share (Some r) e = h
-  cancel_stands differs Move (Some r) e = remove_stands s s.transfers h differs r (named_region s t.region r e).0 (none r e)
-  cancel_stands differs WeakMove (Some r) e = state_stands s s.transfers h (moved_out s r.number) r.number (with_state Out) (moved_out_place s r.number) (none r e)
+  cancel_stands differs class (Some r) e = give_up_stands s h differs class r (named_region s t.region r e).0 (none r e)
 
 taken_stands : (s : State) (k : ℕ) → Stands s → Stands (without_transfer s k)
 taken_stands s k h = let g = stand_without s s.transfers (is_numbered k) h in record { each = g.each; one = g.one }

@@ -129,8 +129,11 @@ module _ {X : Type 0} (p : X → Bool) where
       (or_cases (p x) (list_any p xs) e)
 
 module _ {X : Type 0} (R : X → X → Type 0) where
+  pub pairs_all : (x : X) (xs : List X) → AllPairs R (x ∷ xs) → All (R x) xs
+  pairs_all x xs h = λ k d lt. h zero (suc k) d (omega arith) (omega arith)
+
   pub pairs_head : (x : X) (xs : List X) → AllPairs R (x ∷ xs) → (y : X) → Has y xs → R x y
-  pairs_head x xs h = all_has (R x) xs (λ k d lt. h zero (suc k) d (omega arith) (omega arith))
+  pairs_head x xs h = all_has (R x) xs (pairs_all x xs h)
 
   pub pairs_tail : (x : X) (xs : List X) → AllPairs R (x ∷ xs) → AllPairs R xs
   pairs_tail x xs h = λ i j d lt within. h (suc i) (suc j) d (omega arith) (omega arith)
@@ -146,6 +149,12 @@ module _ {X : Type 0} (R : X → X → Type 0) where
       (λ k d lt. pairs_head x (xs ++ (ms ++ ys)) h (get_or (xs ++ ys) k d)
       (⊎_elim (has_left _ xs (ms ++ ys)) (λ r. has_right _ xs (ms ++ ys) (has_right _ ms ys r)) (has_either (get_or (xs ++ ys) k d) xs ys (has_at (xs ++ ys) k d lt))))
       (pairs_beside xs ms ys (pairs_tail x (xs ++ (ms ++ ys)) h))
+
+-- what is so of each entry of a table, and where there is none
+pub at_entry : {X : Type 0} (P : Option X → Type 0) (xs : List (Option X)) (n : ℕ) → P None → All P xs → P (entry xs n)
+at_entry P [] n none h = none
+at_entry P (x ∷ xs) zero none h = h zero x (omega arith)
+at_entry P (x ∷ xs) (suc n) none h = at_entry P xs n none (λ k d lt. h (suc k) d (omega arith))
 
 -- a table in which each entry is changed
 pub entry_map : {X : Type 0} (f : Option X → Option X) → f None ≡ None → (xs : List (Option X)) (n : ℕ) → entry (map f xs) n ≡ f (entry xs n)

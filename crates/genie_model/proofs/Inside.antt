@@ -1,18 +1,18 @@
 -- A byte in a place where others are stored is the new one for that place, or stays.
-use Rattle.std.proofs.Common.{◌≡◌, ℕ, zero, suc, ◌+◌, ◌-◌, ◌<◌, true, false, ◌&&◌, ◌⊎◌, inl, inr, ⊎_elim, List, [], ◌∷◌, length, map, find, get_or, All, AllPairs, refl, sym, ap, subst, ◌∙◌, eqb-true, eq-eqb, true≢false, arith}
+use Rattle.std.proofs.Common.{◌≡◌, ℕ, zero, suc, ◌+◌, ◌-◌, ◌<◌, true, false, ◌&&◌, ◌⊎◌, inl, inr, ⊎_elim, List, [], ◌∷◌, length, map, get_or, All, AllPairs, refl, sym, ap, subst, ◌∙◌, eqb-true, eq-eqb, true≢false, arith}
 use Rattle.std.specs.Prelude.{Option, Some, None, slice_index, nat_le, nat_lt, ◌==◌}
 use Rattle.std.specs.Option.{option_map}
-use Rattle.std.proofs.lemmas.Bool.{cases_Bool, cases_lt, cond_both}
+use Rattle.std.proofs.lemmas.Bool.{cases_Bool, cases_lt}
 use Rattle.std.proofs.lemmas.Bool.Decides.{nat_tests}
 use Rattle.std.proofs.lemmas.List.Elements.{All-tail, All-map}
 use Rattle.genie_base.specs.Bytes.{overlaid, part}
 use Rattle.genie_model.specs.State.{State, Region, Orphan}
 use Rattle.genie_model.specs.Orderly.{OrphanPlacesRise}
-use Rattle.genie_model.specs.Regions.{is_region, is_orphan, region_numbered, orphan_numbered, is_within_range, bytes_within, orphan_part, region_part, bytes_of, changed, with_bytes, stored_at, stored_in_orphan, put}
+use Rattle.genie_model.specs.Regions.{is_orphan, region_numbered, orphan_numbered, is_within_range, bytes_within, orphan_part, region_part, bytes_of, changed, with_bytes, stored_at, stored_in_orphan, put}
 use Rattle.genie_model.proofs.Beside.{IsOutside, put_beside}
-use Rattle.genie_model.proofs.Changing.{put_in_place}
-use Rattle.genie_model.proofs.Finding.{all_of, region_found}
-use Rattle.genie_model.proofs.Having.{all_has, find_has, find_map, pairs_tail}
+use Rattle.genie_model.proofs.Changing.{place_found, put_orphan, put_in_place}
+use Rattle.genie_model.proofs.Finding.{number_has}
+use Rattle.genie_model.proofs.Having.{all_has, find_has, pairs_tail}
 use Rattle.genie_model.proofs.Ordered.{stored_place}
 
 part_one : (i : ℕ) (bytes : List ℕ) → i < length bytes → part i 1 bytes ≡ slice_index bytes i ∷ []
@@ -73,12 +73,7 @@ module _ (x i y : ℕ) (new : List ℕ) (place : x + i ≡ y) (within : i < leng
 
   put_inside : (s : State) (k : ℕ) → OrphanPlacesRise s → Either (bytes_of s k y 1) (part i 1 new) (bytes_of (put s k x new) k y 1)
   put_inside s k order =
-      let region_same = λ (r : Region). cond_both (r.number == k) (with_bytes x new r) r (λ (q : Region). is_region k q ≡ is_region k r) (λ _. refl) (λ _. refl) in
-      let orphan_same = λ (o : Orphan). cond_both (o.number == k) (record o { bytes = map (stored_at x new) o.bytes }) o (λ (q : Orphan). is_orphan k q ≡ is_orphan k o) (λ _. refl) (λ _. refl) in
-      let region : region_numbered (put s k x new) k ≡ option_map (changed k (with_bytes x new)) (region_numbered s k) =
-      region_found (put s k x new) k ∙ ap (find (is_region k)) (put_in_place s k x new).all ∙ find_map (is_region k) (changed k (with_bytes x new)) region_same (all_of s.processes) ∙ ap (option_map (changed k (with_bytes x new))) (sym (region_found s k)) in
-      let orphan : orphan_numbered (put s k x new) k ≡ option_map (stored_in_orphan k x new) (orphan_numbered s k) = find_map (is_orphan k) (stored_in_orphan k x new) orphan_same s.orphans in
-      rw (region, orphan) (region_inside k (region_numbered s k) _ _ (λ r e. (find_has (is_region k) (all_of s.processes) r (sym (region_found s k) ∙ e)).1)
+      rw (place_found s (put s k x new) k (with_bytes x new) (put_in_place s k x new) k, put_orphan s k x new k) (region_inside k (region_numbered s k) _ _ (λ r e. (number_has s k r e).1)
       (orphan_inside k (orphan_numbered s k) (λ o e. let has = find_has (is_orphan k) s.orphans o e in (has.1, all_has (λ (p : Orphan). AllPairs Below p.bytes) s.orphans order o has.0))))
 
 -- the byte at place y of j is one of those that were stored from place x of k on

@@ -1,6 +1,6 @@
 -- Every event but those that store bytes leaves a byte that a pending weak transfer covers.
-use Rattle.std.proofs.Common.{◌≡◌, ℕ, zero, suc, ◌+◌, ◌<◌, Bool, true, false, not, ◌&&◌, ◌||◌, ◌==◌, ◌⊎◌, inl, inr, ⊎_elim, List, [], ◌∷◌, ◌++◌, map, filter, find, AllPairs, ◌≢◌, refl, sym, ap, subst, ◌∙◌, eqb-true, eq-eqb, ne_eqb, true≢false, arith}
-use Rattle.std.specs.Prelude.{Option, Some, None, IsTrue, ⊤, nat_le, nat_lt, sum_by, option_and_then, is_some}
+use Rattle.std.proofs.Common.{◌≡◌, ℕ, zero, suc, ◌+◌, ◌<◌, Bool, true, false, not, ◌&&◌, ◌==◌, ◌⊎◌, inl, inr, ⊎_elim, List, [], ◌∷◌, ◌++◌, map, filter, find, AllPairs, ◌≢◌, refl, sym, ap, subst, ◌∙◌, eqb-true, eq-eqb, ne_eqb, true≢false, arith}
+use Rattle.std.specs.Prelude.{Option, Some, None, IsTrue, ⊤, nat_le, nat_lt}
 use Rattle.std.specs.List.{list_any}
 use Rattle.std.proofs.lemmas.Bool.{cases_Bool, cond_both, and_parts}
 use Rattle.std.proofs.lemmas.Bool.Decides.{nat_tests}
@@ -11,20 +11,18 @@ use Rattle.genie_base.specs.Regions.{is_reached, add_in_order}
 use Rattle.genie_base.specs.Transfers.{class_of, is_strong}
 use Rattle.genie_base.specs.declared.event.Event.{Event}
 use Rattle.genie_base.specs.declared.event.Event.TheVariants.{Spawn, Fork, Exit, Map, Alloc, Unmap, Protect, Read, Write, Output, Input, Send, Recv, Finish, Cancel, Pageout}
-use Rattle.genie_base.specs.declared.refusal.Refusal.{Refusal}
-use Rattle.genie_base.specs.declared.refusal.Refusal.TheVariants as cause
 use Rattle.genie_base.specs.declared.region.Area.TheVariants.{App}
 use Rattle.genie_base.specs.declared.region.RegionState.TheVariants.{Live, In, Out, Held}
 use Rattle.genie_base.specs.declared.reply.Mark.{Mark}
 use Rattle.genie_base.specs.declared.semantics.Class.{Class}
 use Rattle.genie_base.specs.declared.semantics.Class.TheVariants.{Copy, Share, Move, WeakMove}
-use Rattle.genie_model.specs.Ending.{without_transfer, region_of, after_cancel, cancel_found}
+use Rattle.genie_model.specs.Ending.{without_transfer, region_of, cancel_found}
 use Rattle.genie_model.specs.Inputs.{pages_for, reusable, moved_in_of, weak_buffer, with_buffer}
 use Rattle.genie_model.specs.Orderly.{LiesInRegion, LiesInOrphan, Lies, orphan_numbers, NumbersDiffer, IsOrderly}
-use Rattle.genie_model.specs.Outputs.{output_of, moved_out_of, after_output}
+use Rattle.genie_model.specs.Outputs.{output_of, moved_out_of, give_up}
 use Rattle.genie_model.specs.Pending.{is_just, names, names_weakly, covers, first_queued, pending, add_transfer}
-use Rattle.genie_model.specs.Refusing.{over_backing, accessible_pages, refuse}
-use Rattle.genie_model.specs.Regions.{extent_of, regions_of, regions_at, is_alive, reach_of, is_region, has_number, region_numbered, is_orphan, orphan_numbered, is_within_range, byte_within, bytes_within, orphan_part, region_part, bytes_of, change_process, changed, changed_in, with_state, with_mode}
+use Rattle.genie_model.specs.Refusing.{refuse}
+use Rattle.genie_model.specs.Regions.{extent_of, regions_of, regions_at, reach_of, is_region, has_number, region_numbered, is_orphan, orphan_numbered, is_within_range, byte_within, bytes_within, orphan_part, region_part, bytes_of, change_process, changed, changed_in, with_state, with_mode}
 use Rattle.genie_model.specs.Sending.{must_stage, send_next}
 use Rattle.genie_model.specs.Space.{spawned, with_region, add_region, zeros, zeros_at_place, placed, as_orphan, add_orphan, without_region, remove, remove_found, cut, is_named, tidy, starts_at, region_from, protect_found, accessible, copy_of, add_copies, add_orphans, exit}
 use Rattle.genie_model.specs.State.{State, Region, Orphan, Process, Transfer}
@@ -32,9 +30,9 @@ use Rattle.genie_model.specs.Step.{perform, with_budget, step}
 use Rattle.genie_model.specs.Tables.{entry}
 use Rattle.genie_model.proofs.Among.{Among, among_has, has_among, among_left, among_right, among_map, among_filter, among_put, among_left_or_there, among_set}
 use Rattle.genie_model.proofs.Arriving.{choice}
-use Rattle.genie_model.proofs.Causes.{first_none}
+use Rattle.genie_model.proofs.Accepted.{spawn_accepted, fork_accepted}
 use Rattle.genie_model.proofs.Distinct.{numbers_differ}
-use Rattle.genie_model.proofs.Finding.{all_of, region_found, has_region, differ, numbers_in, only_region, no_orphan}
+use Rattle.genie_model.proofs.Finding.{all_of, differ, numbers_in, no_orphan, number_has, found_at, IsThere, at_there, region_there}
 use Rattle.genie_model.proofs.Having.{Has, all_has, any_has, has_any, find_has, has_map, has_either, pairs_head, pairs_tail, pairs_right}
 use Rattle.genie_model.proofs.Stepping.{event_so}
 
@@ -184,18 +182,15 @@ module _ (k x : ℕ) (b : List ℕ) where
       rw other (only_orphan os (pairs_tail (λ (a c : ℕ). a ≢ c) q.number (orphan_numbers os) apart) o e is)
 
   module _ (s : State) (differs : NumbersDiffer s) where
-    region_there : (r : Region) → Has r (all_of s.processes) → r.number ≡ k → region_numbered s k ≡ Some r
-    region_there r has is = region_found s k ∙ subst (λ n. find (is_region n) (all_of s.processes) ≡ Some r) is (only_region s.orphans (all_of s.processes) (differ s differs) r has)
-
     no_region : (o : Orphan) → Has o s.orphans → o.number ≡ k → (found : Option Region) → region_numbered s k ≡ found → found ≡ None
     no_region o has is None e = refl
     no_region o has is (Some r) e =
-        let there = find_has (is_region k) (all_of s.processes) r (sym (region_found s k) ∙ e) in
+        let there = number_has s k r e in
         let none = no_orphan s.orphans (all_of s.processes) (differ s differs) r there.0 in
         absurd (true≢false (sym (has_any (is_orphan r.number) o s.orphans has (rw (is, eqb-true r.number k there.1) (eq-eqb k k refl))) ∙ none))
 
     read_back : HasByte s → bytes_of s k x 1 ≡ b
-    read_back (inl h) = let some = among_has InRegion (all_of s.processes) (joined s.processes h) in rw (region_there some.0 some.1 some.2.0) some.2.1
+    read_back (inl h) = let some = among_has InRegion (all_of s.processes) (joined s.processes h) in rw (found_at s differs some.0 some.1 k some.2.0) some.2.1
     read_back (inr h) =
         let some = among_has InOrphan s.orphans h in
         let orphans = pairs_right (λ (a c : ℕ). a ≢ c) (numbers_in (all_of s.processes)) (orphan_numbers s.orphans) (differ s differs) in
@@ -205,27 +200,11 @@ module _ (k x : ℕ) (b : List ℕ) where
   abbrev Tells : State → Type 0
   Tells s = (r : Region) → Has r (all_of s.processes) → r.number ≡ k → part x 1 r.bytes ≡ b
 
-  abbrev There : State → Option Region → Type 0
-  There s None = ⊤
-  There s (Some r) = Has r (all_of s.processes)
-
-  found_there : (s : State) (test : Region → Bool) (p : ℕ) (o : Option Region) → find test (regions_at s p) ≡ o → There s o
-  found_there s test p None e = tt
-  found_there s test p (Some r) e = has_region s p r (find_has test (regions_at s p) r e).0
-
-  numbered_there : (s : State) (j : ℕ) (o : Option Region) → region_numbered s j ≡ o → There s o
-  numbered_there s j None e = tt
-  numbered_there s j (Some r) e = (find_has (is_region j) (all_of s.processes) r (sym (region_found s j) ∙ e)).0
-
-  named_there : (s : State) (named : Option ℕ) → There s (option_and_then (region_numbered s) named)
-  named_there s None = tt
-  named_there s (Some j) = numbered_there s j (region_numbered s j) refl
-
   place_has : (g : Process → Process) → ((p : Process) → Among InRegion p.regions → Among InRegion (g p).regions) → (s : State) → HasByte s → HasByte (record s { processes = map (change_process g) s.processes })
   place_has g so s (inl h) = inl (each_has g so s.processes h)
   place_has g so s (inr h) = inr h
 
-  unmap_has : (s : State) (o : Option Region) → Tells s → There s o → HasByte s → HasByte (remove_found s o)
+  unmap_has : (s : State) (o : Option Region) → Tells s → IsThere s o → HasByte s → HasByte (remove_found s o)
   unmap_has s None tells there h = h
   unmap_has s (Some r) tells there h = remove_has s r (tells r there) h
 
@@ -233,12 +212,11 @@ module _ (k x : ℕ) (b : List ℕ) where
   protect_has s None writable h = h
   protect_has s (Some r) writable h = place_has (changed_in r.number (with_mode writable)) (λ p. changed_has r.number (with_mode writable) (λ q g. g) p.regions) s h
 
-  output_has : (s : State) (class : Class) (o : Option Region) → Tells s → There s o → HasByte s → HasByte (after_output s class o)
-  output_has s class None tells there h = h
-  output_has s Copy (Some r) tells there h = h
-  output_has s Share (Some r) tells there h = h
-  output_has s Move (Some r) tells there h = remove_has s r (tells r there) h
-  output_has s WeakMove (Some r) tells there h = place_has (moved_out_of r.number) (out_has r.number) s h
+  given_up_has : (s : State) (class : Class) (o : Option Region) → Tells s → IsThere s o → HasByte s → HasByte (give_up s class o)
+  given_up_has s class None tells there h = h
+  given_up_has s Move (Some r) tells there h = remove_has s r (tells r there) h
+  given_up_has s WeakMove (Some r) tells there h = place_has (moved_out_of r.number) (out_has r.number) s h
+  given_up_has s class (Some r) tells there h = h
 
   weak_has : (s : State) (p n : ℕ) (o : Option ℕ) → HasByte s → HasByte (weak_buffer s p n o)
   weak_has s p n None h = add_has s p (zeros_at_place s In p (pages_for s n)) h
@@ -254,16 +232,9 @@ module _ (k x : ℕ) (b : List ℕ) where
   send_has s d n None h = h
   send_has s d n (Some t) h = choice HasByte (must_stage s d t) _ _ h h
 
-  ended_has : (s : State) (class : Class) (o : Option Region) → Tells s → There s o → HasByte s → HasByte (after_cancel s class o)
-  ended_has s class None tells there h = h
-  ended_has s Copy (Some r) tells there h = h
-  ended_has s Share (Some r) tells there h = h
-  ended_has s Move (Some r) tells there h = remove_has s r (tells r there) h
-  ended_has s WeakMove (Some r) tells there h = place_has (moved_out_of r.number) (out_has r.number) s h
-
   cancel_has : (s : State) (j : ℕ) (o : Option Transfer) → Tells s → HasByte s → HasByte (cancel_found s j o).0
   cancel_has s j None tells h = h
-  cancel_has s j (Some t) tells h = ended_has (without_transfer s j) t.class (region_of s t) tells (named_there s t.region) h
+  cancel_has s j (Some t) tells h = given_up_has (without_transfer s j) t.class (region_of s t) tells (region_there s t) h
 
   -- where a process comes, none was
   abbrev IsVacant : State → Event → Type 0
@@ -271,15 +242,9 @@ module _ (k x : ℕ) (b : List ℕ) where
   IsVacant s (Fork p q) = entry s.processes q ≡ None
   IsVacant s _ = ⊤
 
-  none_here : (o : Option Process) → is_some o ≡ false → o ≡ None
-  none_here None e = refl
-  none_here (Some p) e = absurd (cc)
-
   vacant : (s : State) (e : Event) → refuse s e ≡ None → IsVacant s e
-  vacant s (Spawn p) h = none_here (entry s.processes p) (first_none (is_alive s p, cause.Exists) [] (first_none (nat_lt 15 p, cause.Proc) ((is_alive s p, cause.Exists) ∷ []) h).1).0
-  vacant s (Fork p q) h =
-      let last : List (Bool × Refusal) = (over_backing s (sum_by accessible_pages (regions_at s p)), cause.Backing) ∷ [] in
-      none_here (entry s.processes q) (first_none (is_alive s q, cause.Exists) last (first_none (not (is_alive s p) || nat_lt 15 q, cause.Proc) ((is_alive s q, cause.Exists) ∷ last) h).1).0
+  vacant s (Spawn p) h = spawn_accepted s p h
+  vacant s (Fork p q) h = (fork_accepted s p q h).free
   vacant s e h = tt
 
   module _ (s : State) (tells : Tells s) (h : HasByte s) where
@@ -289,13 +254,13 @@ module _ (k x : ℕ) (b : List ℕ) where
     perform_has (Exit p) quiet none = exit_has s p h
     perform_has (Map p g n) quiet none = add_has s p (zeros s App Live g n) h
     perform_has (Alloc p n) quiet none = add_has s p (zeros_at_place s Live p n) h
-    perform_has (Unmap p g) quiet none = unmap_has s (region_from s p g) tells (found_there s (starts_at g) p (region_from s p g) refl) h
+    perform_has (Unmap p g) quiet none = unmap_has s (region_from s p g) tells (at_there s p (starts_at g)) h
     perform_has (Protect p g writable) quiet none = protect_has s (region_from s p g) writable h
     perform_has (Read p a n) quiet none = h
     perform_has (Write p a bytes) quiet none = absurd (true≢false quiet)
     perform_has (Output p sem d port flow a n) quiet none =
         let to : Address = record { device = d; port = port; flow = flow } in
-        output_has (add_transfer s (output_of s p (class_of sem) to a n (reach_of s p a n))) (class_of sem) (reach_of s p a n) tells (found_there s (λ r. is_reached s.config.page a n (extent_of r)) p (reach_of s p a n) refl) h
+        given_up_has (add_transfer s (output_of s p (class_of sem) to a n (reach_of s p a n))) (class_of sem) (reach_of s p a n) tells (at_there s p (λ r. is_reached s.config.page a n (extent_of r))) h
     perform_has (Input p sem d port flow a n) quiet none = input_has s p (class_of sem) n h
     perform_has (Send d n) quiet none = send_has s d n (first_queued s d) h
     perform_has (Recv d n) quiet none = absurd (true≢false quiet)
@@ -312,11 +277,8 @@ module _ (k x : ℕ) (b : List ℕ) where
     abbrev Lasts : State → Type 0
     Lasts t = list_any (covers k x) t.transfers ≡ true → HasByte t
 
-    step_lasts : (e : Event) (m : Mark) → may_store e ≡ false → (refusal : Option Refusal) → refuse s e ≡ refusal → Lasts (step s e m).0
-    step_lasts e m quiet (Some w) is = rw is (λ _. h)
-    step_lasts e m quiet None is =
-        let none = vacant s e is in
-        event_so Lasts s (λ _. h) e (tidy_has (perform s e).0 (perform_has e quiet none)) (λ j. tidy_has (perform s (with_budget e j)).0 (budget_has e j quiet none)) m
+    step_lasts : (e : Event) (m : Mark) → may_store e ≡ false → Lasts (step s e m).0
+    step_lasts e m quiet = event_so Lasts s (λ _. h) e (λ none. tidy_has (perform s e).0 (perform_has e quiet (vacant s e none))) (λ none j. tidy_has (perform s (with_budget e j)).0 (budget_has e j quiet (vacant s e none))) m
 
 lies_named : (s : State) (u : Transfer) (named : Option ℕ) (k : ℕ) → is_just named k ≡ true → Lies s u named → Lies s u (Some k)
 lies_named s u None k e h = absurd (cc)
@@ -324,7 +286,7 @@ lies_named s u (Some n) k e h = subst (λ j. Lies s u (Some j)) (eqb-true n k e)
 
 begins : (s : State) (u : Transfer) (k x : ℕ) (r : Option Region) (o : Option Orphan) → region_numbered s k ≡ r → orphan_numbered s k ≡ o → LiesInRegion u r ⊎ LiesInOrphan u o → HasByte k x (region_part x 1 r (orphan_part x 1 o)) s
 begins s u k x (Some r) o e f h =
-    let found = find_has (is_region k) (all_of s.processes) r (sym (region_found s k) ∙ e) in
+    let found = number_has s k r e in
     inl (parted k x (part x 1 r.bytes) s.processes r (eqb-true r.number k found.1, refl) found.0)
 begins s u k x None (Some o) e f h =
     let found = find_has (is_orphan k) s.orphans o f in
@@ -339,5 +301,5 @@ others_leave s e m k x whole o quiet before after =
     let lies = lies_named s u u.region k named.1 (all_has (λ (t : Transfer). Lies s t t.region) s.transfers o.ranges u some.1) in
     let h = begins s u k x (region_numbered s k) (orphan_numbered s k) refl refl lies in
     let b : List ℕ = bytes_of s k x 1 in
-    let tells : Tells k x b s = λ r has is. sym (ap (λ found. region_part x 1 found (orphan_part x 1 (orphan_numbered s k))) (region_there k x b s o.numbers r has is)) in
-    read_back k x b (step s e m).0 (numbers_differ s e m whole o) (step_lasts k x b s tells h e m quiet (refuse s e) refl after)
+    let tells : Tells k x b s = λ r has is. sym (ap (λ found. region_part x 1 found (orphan_part x 1 (orphan_numbered s k))) (found_at s o.numbers r has k is)) in
+    read_back k x b (step s e m).0 (numbers_differ s e m whole o) (step_lasts k x b s tells h e m quiet after)

@@ -8,12 +8,12 @@ use Rattle.std.proofs.lemmas.List.Elements.{All-map, All-filter}
 use Rattle.genie_base.specs.declared.semantics.Class.{Class}
 use Rattle.genie_base.specs.declared.semantics.Class.TheVariants.{Copy, Share, Move, WeakMove}
 use Rattle.genie_model.specs.State.{State, Region, Process, Transfer}
-use Rattle.genie_model.specs.Regions.{regions_of, regions_at, is_region, is_orphan, region_numbered}
+use Rattle.genie_model.specs.Regions.{regions_of, regions_at, is_region, region_numbered}
 use Rattle.genie_model.specs.Pending.{is_just, names}
 use Rattle.genie_model.specs.Space.{exit, is_move, disowned, is_posted_by}
 use Rattle.genie_model.specs.Orderly.{holds, orphan_numbers, NumbersDiffer, moves_into}
 use Rattle.genie_model.proofs.Having.{Has, has_left, has_right, has_either, or_next, find_append, find_has, any_found, find_none, pairs_right, pairs_beside, entry_set}
-use Rattle.genie_model.proofs.Finding.{all_of, region_found, has_region, splits, find_middle, Differ, numbers_in, differ, only_region, no_orphan, orphans_beside, orphans_from}
+use Rattle.genie_model.proofs.Finding.{all_of, region_found, has_region, splits, find_middle, Differ, numbers_in, differ, only_region, orphans_beside, orphans_from, found_at, no_orphan_at}
 use Rattle.genie_model.proofs.Standing.{Holds, KeepsLies, Fine, fine_stays, held_region, Stand}
 use Rattle.genie_model.proofs.Changing.{holds_it, lies_in_orphan}
 use Rattle.genie_model.proofs.Naming.{any_kept, count_kept, fewer, fine_in}
@@ -69,11 +69,11 @@ module _ (s : State) (p : ℕ) (differs : NumbersDiffer s) where
       let has = find_has (is_region k) (regions_at s p) x first.1 in
       let there = has_region s p x has.0 in
       let number = eqb-true x.number k has.1 in
-      let whole = subst (λ n. find (is_region n) (all_of s.processes) ≡ Some x) number (only_region s.orphans (all_of s.processes) (differ s differs) x there) in
-      let none = find_none (is_orphan k) s.orphans (subst (λ n. list_any (is_orphan n) s.orphans ≡ false) number (no_orphan s.orphans (all_of s.processes) (differ s differs) x there)) in
+      let whole = found_at s differs x there k number in
+      let none = no_orphan_at s differs x there k number in
       let apart = pairs_right (λ (a b : ℕ). a ≢ b) (numbers_in (splits s.processes p).before) (numbers_in (regions_at s p) ++ (numbers_in (splits s.processes p).after ++ orphan_numbers s.orphans)) whole_differ in
       let made = orphans_from k (regions_at s p) s.orphans (numbers_in (splits s.processes p).after ++ orphan_numbers s.orphans) x apart first.1 none in
-      inr (rw made (⊎_elim (λ i. lies_in_orphan u x (rw (region_found s k ∙ whole) at i)) (λ i. absurd (rw none at i)) h)))
+      inr (rw made (⊎_elim (λ i. lies_in_orphan u x (rw whole at i)) (λ i. absurd (rw none at i)) h)))
       (λ (f : list_any (is_region k) (regions_at s p) ≡ false). ⊎_elim (λ i. inl (rw (left_beside k f) i)) (λ i. inr (rw (orphans_beside k (regions_at s p) s.orphans f) i)) h)
       (cases_Bool (list_any (is_region k) (regions_at s p)))
 

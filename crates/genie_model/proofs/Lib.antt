@@ -6,12 +6,14 @@ pub mod Alike
 pub mod Among
 pub mod Apart
 pub mod Arriving
+pub mod Aside
 pub mod Behind
 pub mod Beside
 pub mod Booting
 pub mod Calling
 pub mod Causes
 pub mod Changing
+pub mod Closing
 pub mod Collecting
 pub mod Counting
 pub mod Covered

@@ -1,25 +1,25 @@
 -- A receive step leaves the transfers that wait for a device to send, since what it receives meets others.
 use Rattle.std.proofs.Common.{◌≡◌, ℕ, ◌+◌, ◌<◌, Bool, true, false, List, [], ◌++◌, refl, sym, subst, ◌∙◌, eqb-true}
-use Rattle.std.specs.Prelude.{Option, Some, None, ⊤, find, take, drop, ◌==◌, if◌then◌else◌}
+use Rattle.std.specs.Prelude.{Option, Some, None, ⊤, find, take, drop, ◌==◌}
 use Rattle.std.specs.Option.{option_map}
 use Rattle.std.specs.List.{list_any}
 use Rattle.std.proofs.lemmas.Bool.{cond_both, and_left, and_parts}
 use Rattle.genie_base.specs.Configs.{DeviceConfig, most}
 use Rattle.genie_base.specs.Headers.{header_taken, is_whole_header, is_valid_header, port_in, flow_in, len_in}
 use Rattle.genie_model.specs.declared.phase.Phase.{Phase}
-use Rattle.genie_model.specs.declared.phase.Phase.TheVariants.{Queued, Posted, Moving, Ready}
+use Rattle.genie_model.specs.declared.phase.Phase.TheVariants.{Queued, Moving}
 use Rattle.genie_model.specs.State.{State, Transfer, Device, Datagram}
 use Rattle.genie_model.specs.declared.datagram.Fate.{Fate}
 use Rattle.genie_model.specs.declared.datagram.Fate.TheVariants.{Matched, Skipped, Gathering}
 use Rattle.genie_model.specs.Tables.{entry}
 use Rattle.genie_model.specs.Pending.{is_queued, is_posted, is_early, is_numbered, waits_for, awaits, pending, first_posted}
-use Rattle.genie_model.specs.Space.{Outcome}
 use Rattle.genie_model.specs.Sending.{change_device}
 use Rattle.genie_model.specs.Refusing.{has_output}
 use Rattle.genie_model.specs.Receiving.{receiving, set_device, is_busy, with_phase, with_datagram, gathered, after_receiving, change_transfer, deliver, complete, landing, landed, land_in, land, after_bytes, go_on, take_payload, datagram, skipped, match_header, begin_datagram, take_header, receive_record, receive, recv}
 use Rattle.genie_model.specs.Orderly.{NumbersRise}
 use Rattle.genie_model.proofs.Having.{all_has, find_has, entry_set}
 use Rattle.genie_model.proofs.Queues.{queue, number_free, queue_free}
+use Rattle.genie_model.proofs.Arriving.{choice}
 
 -- a number that no transfer of this queue has, nor a later one will have
 abbrev pub IsFree : List Transfer → ℕ → ℕ → Type 0
@@ -51,11 +51,9 @@ MeetOthers q n configs devices = (dev : ℕ) → OnDevice q n (has_output (entry
 abbrev pub Meets : ℕ → State → Type 0
 Meets d s = MeetOthers (queue d s.transfers) s.next s.config.devices s.devices
 
-posted_idle : (phase : Phase) → is_posted phase ≡ true → is_queued phase ≡ false
+pub posted_idle : (phase : Phase) → is_posted phase ≡ true → is_queued phase ≡ false
 posted_idle Queued e = sym e
-posted_idle Posted e = refl
-posted_idle Moving e = refl
-posted_idle Ready e = refl
+posted_idle phase e = refl
 
 -- posted inputs have free numbers
 abbrev PostsFree : List Transfer → ℕ → State → Type 0
@@ -80,10 +78,6 @@ module _ (d : ℕ) (q : List Transfer) (n : ℕ) (configs : List (Option DeviceC
     pub next : t.next ≡ n
     pub config : t.config.devices ≡ configs
     pub meets : MeetOthers q n configs t.devices
-
-  choice : (b : Bool) (x y : Outcome) → Keeps x.0 → Keeps y.0 → Keeps (if b then x else y).0
-  choice true x y k l = k
-  choice false x y k l = l
 
   set_keeps : (s : State) (dev : ℕ) (v : Device) → HasMet q n v.present → Keeps s → Keeps (set_device s dev v)
   set_keeps s dev v h k =
@@ -128,8 +122,8 @@ module _ (d : ℕ) (q : List Transfer) (n : ℕ) (configs : List (Option DeviceC
       let over : Device = record v { present = None } in
       let last : State = set_device s dev over in
       let there = set_keeps s dev over tt h in
-      choice (k == 0) _ _ (complete_keeps last dev g true 0 g.fate (ended s dev over g.fate free) there)
-      (choice (g.moved == g.len) _ _ (complete_keeps last dev g false k g.fate (ended s dev over g.fate free) there) (set_keeps s dev (record v { present = Some g }) (ends_met s g.fate free) h))
+      choice Keeps (k == 0) _ _ (complete_keeps last dev g true 0 g.fate (ended s dev over g.fate free) there)
+      (choice Keeps (g.moved == g.len) _ _ (complete_keeps last dev g false k g.fate (ended s dev over g.fate free) there) (set_keeps s dev (record v { present = Some g }) (ends_met s g.fate free) h))
 
   landed_keeps : (s : State) (t : Transfer) (x : ℕ) (bytes : List ℕ) (r : Option ℕ) → Keeps s → Keeps (landed s t x bytes r)
   landed_keeps s t x bytes None h = h
@@ -160,14 +154,14 @@ module _ (d : ℕ) (q : List Transfer) (n : ℕ) (configs : List (Option DeviceC
   match_keeps s dev left v header a (Some t) free h = payload_keeps (change_transfer s t (with_phase Moving)) dev v (datagram header (Matched t)) a _ free (change_keeps s t (with_phase Moving) (λ u e. refl) free h)
 
   begin_keeps : (s : State) (dev left : ℕ) (v : Device) (header : List ℕ) (a : ℕ) → PostsFree q n s → Keeps s → Keeps (begin_datagram s dev left v header a).0
-  begin_keeps s dev left v header a posts h = choice (is_early v.kind) _ _ (match_keeps s dev left v header a (first_posted s dev (port_in header) (flow_in header)) (posts dev (port_in header) (flow_in header)) h) (payload_keeps s dev v (datagram header Gathering) a _ posts h)
+  begin_keeps s dev left v header a posts h = choice Keeps (is_early v.kind) _ _ (match_keeps s dev left v header a (first_posted s dev (port_in header) (flow_in header)) (posts dev (port_in header) (flow_in header)) h) (payload_keeps s dev v (datagram header Gathering) a _ posts h)
 
   take_keeps : (s : State) (dev m : ℕ) (v : Device) (a : ℕ) → HasMet q n v.present → PostsFree q n s → Keeps s → Keeps (take_header s dev m v a).0
   take_keeps s dev m v a met posts h =
       let header : List ℕ = v.header ++ take a v.rest in
       let after : Device = record v { rest = drop a v.rest; header = header } in
-      choice (is_whole_header header) _ _
-      (choice (is_valid_header (most after.kind s.config.page) header) _ _ (begin_keeps s dev _ (record after { header = [] }) header a posts h) (set_keeps s dev (record after { header = []; is_bad = true }) met h))
+      choice Keeps (is_whole_header header) _ _
+      (choice Keeps (is_valid_header (most after.kind s.config.page) header) _ _ (begin_keeps s dev _ (record after { header = [] }) header a posts h) (set_keeps s dev (record after { header = []; is_bad = true }) met h))
       (set_keeps s dev after met h)
 
   record_keeps : (s : State) (dev m : ℕ) (v : Device) (o : Option Datagram) → HasMet q n v.present → HasMet q n o → PostsFree q n s → Keeps s → Keeps (receive_record s dev m v o).0
@@ -176,7 +170,7 @@ module _ (d : ℕ) (q : List Transfer) (n : ℕ) (configs : List (Option DeviceC
 
   receive_keeps : (s : State) (dev m : ℕ) (o : Option Device) (sends : Bool) → OnDevice q n sends o → PostsFree q n s → Keeps s → Keeps (receive s dev m o).0
   receive_keeps s dev m None sends met posts h = h
-  receive_keeps s dev m (Some v) sends met posts h = choice v.is_bad _ _ h (choice (is_busy s dev v) _ _ h (record_keeps s dev m v v.present met met posts h))
+  receive_keeps s dev m (Some v) sends met posts h = choice Keeps v.is_bad _ _ h (choice Keeps (is_busy s dev v) _ _ h (record_keeps s dev m v v.present met met posts h))
 
 pub recv_keeps : (d : ℕ) (s : State) (dev m : ℕ) → NumbersRise s → Meets d s → Keeps d (queue d s.transfers) s.next s.config.devices (recv s dev m).0
 recv_keeps d s dev m rise meets = receive_keeps d (queue d s.transfers) s.next s.config.devices s dev m (entry s.devices dev) (has_output (entry s.config.devices dev)) (meets dev)

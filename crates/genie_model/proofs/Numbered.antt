@@ -1,19 +1,19 @@
 -- What changes of regions and orphans do to their numbers.
-use Rattle.std.proofs.Common.{◌≡◌, ℕ, zero, suc, ◌+◌, ◌≤◌, Bool, true, false, not, ◌==◌, nat_lt, nat_le, List, [], ◌∷◌, ◌++◌, length, map, filter, find, flat_map, refl, sym, ap, ap₂, subst, ◌∙◌, ⊎_elim, eqb-true, ltb-false, arith}
-use Rattle.std.specs.Prelude.{Option, Some, None, slice_set, ⊤}
-use Rattle.std.specs.Option.{option_flatten, option_and_then}
+use Rattle.std.proofs.Common.{◌≡◌, ℕ, zero, suc, ◌+◌, ◌≤◌, true, false, not, ◌==◌, nat_lt, nat_le, List, [], ◌∷◌, ◌++◌, length, map, filter, flat_map, refl, sym, ap, ap₂, subst, ◌∙◌, ⊎_elim, eqb-true, ltb-false, arith, inl, inr}
+use Rattle.std.specs.Prelude.{Option, Some, None, slice_set}
 use Rattle.std.proofs.lemmas.Bool.{cases_Bool, cond_both, not-true}
 use Rattle.genie_base.specs.Regions.{add_in_order}
 use Rattle.genie_base.specs.declared.region.RegionState.TheVariants.{Out, In}
 use Rattle.genie_model.specs.State.{State, Region, Orphan, Process, Transfer}
 use Rattle.genie_model.specs.Tables.{entry}
-use Rattle.genie_model.specs.Regions.{extent_of, regions_of, regions_at, is_region, has_number, is_used, region_numbered, changed, changed_in, change_process, change_region, with_bytes, with_state, stored_in_orphan, put}
+use Rattle.genie_model.specs.Regions.{extent_of, regions_at, is_region, has_number, is_used, changed, changed_in, change_process, change_region, with_bytes, with_state, stored_in_orphan, put}
 use Rattle.genie_model.specs.Space.{with_region, add_region, copy_of, add_copies, spawned, as_orphan, add_orphan, add_orphans, without_region, remove, cut, is_named, tidy, exit}
 use Rattle.genie_model.specs.Outputs.{moved_out_of, moved_out}
 use Rattle.genie_model.specs.Inputs.{moved_in_of, moved_in}
-use Rattle.genie_model.specs.Ending.{region_of}
 use Rattle.genie_model.specs.Orderly.{region_numbers, orphan_numbers, numbers}
 use Rattle.genie_model.proofs.Unused.{one, once, times, times-append, no_longer, used_times, fresh_unused}
+use Rattle.genie_model.proofs.Finding.{all_of, numbers_in, joined_numbers}
+use Rattle.genie_model.proofs.Having.{Has}
 
 -- how often a number is that of a region
 abbrev pub region_times : ℕ → State → ℕ
@@ -139,48 +139,22 @@ processes_without n k (Some p ∷ processes) =
       omega (arith, first.1, rest.1, times-append n (region_numbers left) (flat_map region_numbers others)),
     )
 
-pub removed_times : (s : State) (r : Region) → 1 ≤ region_times r.number s → (k : ℕ) → times k (numbers (remove s r)) ≤ times k (numbers s)
+there_times : (rs : List Region) (r : Region) → Has r rs → 1 ≤ times r.number (numbers_in rs)
+there_times [] r h = absurd h
+there_times (q ∷ rs) r (inl e) = subst (λ (x : Region). 1 ≤ times x.number (numbers_in (q ∷ rs))) e (omega (arith, once q.number))
+there_times (q ∷ rs) r (inr h) = omega (arith, there_times rs r h)
+
+pub removed_times : (s : State) (r : Region) → Has r (all_of s.processes) → (k : ℕ) → times k (numbers (remove s r)) ≤ times k (numbers s)
 removed_times s r there k =
+    let counts : 1 ≤ region_times r.number s = subst (λ l. 1 ≤ times r.number l) (sym (joined_numbers s.processes)) (there_times (all_of s.processes) r there) in
     let left = processes_without r.number k s.processes in
     let all = numbers_times k s in
     let all_left = numbers_times k (remove s r) in
     let orphans = orphan_times k r s.orphans in
     ⊎_elim
-    (λ (e : (r.number == k) ≡ true). let same = eqb-true r.number k e in let gone = subst (λ j. times j (flat_map region_numbers (map (change_process (without_region r.number)) s.processes)) ≡ 0) same left.1 in let here = subst (λ j. 1 ≤ region_times j s) same there in omega (arith, gone, here, all, all_left, orphans, ap one e))
+    (λ (e : (r.number == k) ≡ true). let same = eqb-true r.number k e in let gone = subst (λ j. times j (flat_map region_numbers (map (change_process (without_region r.number)) s.processes)) ≡ 0) same left.1 in let here = subst (λ j. 1 ≤ region_times j s) same counts in omega (arith, gone, here, all, all_left, orphans, ap one e))
     (λ (e : (r.number == k) ≡ false). omega (arith, left.0, all, all_left, orphans, ap one e))
     (cases_Bool (r.number == k))
-
--- what stands at a place of the table counts
-entry_times : (k : ℕ) (processes : List (Option Process)) (p : ℕ) → times k (region_numbers (entry processes p)) ≤ times k (flat_map region_numbers processes)
-entry_times k [] p = omega arith
-entry_times k (x ∷ processes) zero = omega (arith, times-append k (region_numbers x) (flat_map region_numbers processes))
-entry_times k (x ∷ processes) (suc p) = omega (arith, entry_times k processes p, times-append k (region_numbers x) (flat_map region_numbers processes))
-
-find_times : (k : ℕ) (test : Option Process → Bool) (processes : List (Option Process)) → times k (region_numbers (option_flatten (find test processes))) ≤ times k (flat_map region_numbers processes)
-find_times k test [] = omega arith
-find_times k test (x ∷ processes) =
-    let all = times-append k (region_numbers x) (flat_map region_numbers processes) in
-    let later = find_times k test processes in
-    cond_both (test x) (Some x) (find test processes) (λ o. times k (region_numbers (option_flatten o)) ≤ times k (region_numbers x ++ flat_map region_numbers processes)) (λ e. omega (arith, all)) (λ e. omega (arith, all, later))
-
--- the region is one of the state
-abbrev pub IsThere : State → Option Region → Type 0
-IsThere s None = ⊤
-IsThere s (Some r) = 1 ≤ region_times r.number s
-
-pub found_there : (s : State) (test : Region → Bool) (regions : List Region) → ((k : ℕ) → times k (map (λ (r : Region). r.number) regions) ≤ region_times k s) → IsThere s (find test regions)
-found_there s test [] within = tt
-found_there s test (r ∷ regions) within = cond_both (test r) (Some r) (find test regions) (IsThere s) (λ e. omega (arith, within r.number, once r.number)) (λ e. found_there s test regions (λ k. omega (arith, within k)))
-
-pub at_there : (s : State) (p : ℕ) (test : Region → Bool) → IsThere s (find test (regions_at s p))
-at_there s p test = found_there s test (regions_at s p) (λ k. entry_times k s.processes p)
-
-named_there : (s : State) (o : Option ℕ) → IsThere s (option_and_then (region_numbered s) o)
-named_there s None = tt
-named_there s (Some k) = found_there s (is_region k) (regions_of (option_flatten (find (has_number k) s.processes))) (λ j. find_times j (has_number k) s.processes)
-
-pub region_there : (s : State) (t : Transfer) → IsThere s (region_of s t)
-region_there s t = named_there s t.region
 
 pub exited_times : (s : State) (p k : ℕ) → times k (numbers (exit s p).0) ≤ times k (numbers s)
 exited_times s p k = omega (arith, numbers_times k s, numbers_times k (exit s p).0, set_times k s.processes p None, orphans_times k (regions_at s p) s.orphans)

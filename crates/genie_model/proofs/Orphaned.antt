@@ -1,24 +1,22 @@
 -- What orphans have in common, also where one comes and where bytes are stored, they have after each accepted event.
 use Rattle.std.proofs.Common.{ℕ, Bool, List, [], ◌∷◌, map}
 use Rattle.std.specs.Prelude.{Option, Some, None}
-use Rattle.std.proofs.lemmas.Bool.{cond_both}
 use Rattle.genie_base.specs.Transfers.{class_of}
 use Rattle.genie_base.specs.declared.event.Event.{Event}
 use Rattle.genie_base.specs.declared.event.Event.TheVariants.{Fork, Exit, Unmap, Protect, Write, Output, Input, Send, Recv, Finish, Cancel}
 use Rattle.genie_base.specs.declared.semantics.Class.{Class}
-use Rattle.genie_base.specs.declared.semantics.Class.TheVariants.{Copy, Move, WeakMove}
-use Rattle.genie_base.specs.declared.semantics.Direction.{Direction}
-use Rattle.genie_base.specs.declared.semantics.Direction.TheVariants.{Outward, Inward}
+use Rattle.genie_base.specs.declared.semantics.Class.TheVariants.{Move, WeakMove}
 use Rattle.genie_model.specs.State.{State, Region, Orphan, Transfer}
-use Rattle.genie_model.specs.Regions.{regions_at, reach_of, write_reach_of, stored_in_orphan, put}
-use Rattle.genie_model.specs.Pending.{is_early_at, first_queued, pending}
+use Rattle.genie_model.specs.Regions.{regions_at, reach_of, stored_in_orphan}
+use Rattle.genie_model.specs.Pending.{first_queued, pending}
 use Rattle.genie_model.specs.Space.{add_orphan, add_orphans, add_region, copy_of, add_copies, accessible, spawned, remove_found, region_from, protect_found, stored}
-use Rattle.genie_model.specs.Outputs.{after_output}
-use Rattle.genie_model.specs.Inputs.{with_buffer, weak_buffer, reusable, pages_for, address_or_zero}
+use Rattle.genie_model.specs.Outputs.{give_up}
+use Rattle.genie_model.specs.Inputs.{with_buffer, weak_buffer, reusable, pages_for}
 use Rattle.genie_model.specs.Sending.{must_stage, send_next}
-use Rattle.genie_model.specs.Ending.{without_transfer, region_of, finish_copy, finish_share, finish_move, finish_weak_move, finish_input, finish_owned, finish_for, finish_found, after_landing, after_cancel, cancel_found}
+use Rattle.genie_model.specs.Ending.{without_transfer, region_of, finish_found, cancel_found}
 use Rattle.genie_model.specs.Step.{perform}
 use Rattle.genie_model.proofs.Arriving.{choice, recv_keeps}
+use Rattle.genie_model.proofs.Closing.{finish_for_keeps}
 
 module _ (P : List Orphan → Type 0) (add : (r : Region) (os : List Orphan) → P os → P (add_orphan r os)) (store : (k x : ℕ) (new : List ℕ) (os : List Orphan) → P os → P (map (stored_in_orphan k x new) os)) where
   after_all : (regions : List Region) (os : List Orphan) → P os → P (add_orphans regions os)
@@ -41,10 +39,10 @@ module _ (P : List Orphan → Type 0) (add : (r : Region) (os : List Orphan) →
   after_store s None a bytes h = h
   after_store s (Some r) a bytes h = store r.number _ bytes s.orphans h
 
-  after_call : (s : State) (class : Class) (o : Option Region) → P s.orphans → P (after_output s class o).orphans
-  after_call s class None h = h
-  after_call s Move (Some r) h = add r s.orphans h
-  after_call s class (Some r) h = h
+  after_giving_up : (s : State) (class : Class) (o : Option Region) → P s.orphans → P (give_up s class o).orphans
+  after_giving_up s class None h = h
+  after_giving_up s Move (Some r) h = add r s.orphans h
+  after_giving_up s class (Some r) h = h
 
   after_weak : (s : State) (p n : ℕ) (o : Option ℕ) → P s.orphans → P (weak_buffer s p n o).orphans
   after_weak s p n None h = h
@@ -58,51 +56,13 @@ module _ (P : List Orphan → Type 0) (add : (r : Region) (os : List Orphan) →
   after_send s d n None h = h
   after_send s d n (Some t) h = choice (λ (x : State). P x.orphans) (must_stage s d t) _ _ h h
 
-  after_land : (s : State) (t : Transfer) (r : Region) → P s.orphans → P (after_landing s t r).orphans
-  after_land s t r h = cond_both (is_early_at s t.device) s (put s r.number t.offset t.payload) (λ (x : State). P x.orphans) (λ _. h) (λ _. store r.number t.offset t.payload s.orphans h)
-
-  after_copy : (s : State) (t : Transfer) (o : Option Region) → P s.orphans → P (finish_copy s t o).0.orphans
-  after_copy s t None h = h
-  after_copy s t (Some r) h = store r.number _ t.payload s.orphans h
-
-  after_share : (s : State) (t : Transfer) (o : Option Region) → P s.orphans → P (finish_share s t o).0.orphans
-  after_share s t None h = h
-  after_share s t (Some r) h = after_land s t r h
-
-  after_move : (s : State) (t : Transfer) (o : Option Region) → P s.orphans → P (finish_move s t o).0.orphans
-  after_move s t None h = h
-  after_move s t (Some r) h = h
-
-  after_weak_move : (s : State) (t : Transfer) (o : Option Region) → P s.orphans → P (finish_weak_move s t o).0.orphans
-  after_weak_move s t None h = h
-  after_weak_move s t (Some r) h = after_land s t r h
-
-  after_input : (s : State) (p : ℕ) (t : Transfer) (class : Class) → P s.orphans → P (finish_input s p t class).0.orphans
-  after_input s p t Copy h = after_copy s t (write_reach_of s p (address_or_zero t.addr) t.len) h
-  after_input s p t Move h = after_move s t (region_of s t) h
-  after_input s p t WeakMove h = after_weak_move s t (region_of s t) h
-  after_input s p t class h = after_share s t (region_of s t) h
-
-  after_owned : (s : State) (p : ℕ) (t : Transfer) (direction : Direction) → P s.orphans → P (finish_owned s p t direction).0.orphans
-  after_owned s p t Outward h = h
-  after_owned s p t Inward h = after_input s p t t.class h
-
-  after_for : (s : State) (t : Transfer) (o : Option ℕ) → P s.orphans → P (finish_for s t o).0.orphans
-  after_for s t None h = h
-  after_for s t (Some p) h = after_owned s p t t.direction h
-
   after_finish : (s : State) (k : ℕ) (o : Option Transfer) → P s.orphans → P (finish_found s k o).0.orphans
   after_finish s k None h = h
-  after_finish s k (Some t) h = after_for (without_transfer s k) t t.owner h
-
-  after_buffer_goes : (s : State) (class : Class) (o : Option Region) → P s.orphans → P (after_cancel s class o).orphans
-  after_buffer_goes s class None h = h
-  after_buffer_goes s Move (Some r) h = add r s.orphans h
-  after_buffer_goes s class (Some r) h = h
+  after_finish s k (Some t) h = finish_for_keeps (λ (x : State). P x.orphans) (λ u j x new g. store j x new u.orphans g) (λ u j new g. g) (λ u j g. g) (without_transfer s k) t t.owner h
 
   after_end : (s : State) (k : ℕ) (o : Option Transfer) → P s.orphans → P (cancel_found s k o).0.orphans
   after_end s k None h = h
-  after_end s k (Some t) h = after_buffer_goes (without_transfer s k) t.class (region_of (without_transfer s k) t) h
+  after_end s k (Some t) h = after_giving_up (without_transfer s k) t.class (region_of (without_transfer s k) t) h
 
   pub orphans_keep : (s : State) (e : Event) → P s.orphans → P (perform s e).0.orphans
   orphans_keep s (Fork p q) h = after_copies (spawned s q) q (accessible (regions_at s p)) h
@@ -110,10 +70,10 @@ module _ (P : List Orphan → Type 0) (add : (r : Region) (os : List Orphan) →
   orphans_keep s (Unmap p g) h = after_removal s (region_from s p g) h
   orphans_keep s (Protect p g writable) h = after_mode s (region_from s p g) writable h
   orphans_keep s (Write p a bytes) h = after_store s _ a bytes h
-  orphans_keep s (Output p sem d port flow a n) h = after_call _ (class_of sem) (reach_of s p a n) h
+  orphans_keep s (Output p sem d port flow a n) h = after_giving_up _ (class_of sem) (reach_of s p a n) h
   orphans_keep s (Input p sem d port flow a n) h = after_buffer s p (class_of sem) n h
   orphans_keep s (Send d n) h = after_send s d n (first_queued s d) h
-  orphans_keep s (Recv d n) h = recv_keeps (λ (x : State). P x.orphans) (λ t d v g. g) (λ t k f g. g) (λ t k x new g. store k x new t.orphans g) s d n h
+  orphans_keep s (Recv d n) h = recv_keeps (λ (x : State). P x.orphans) (λ t d v g. g) (λ t k f e g. g) (λ t k x new g. store k x new t.orphans g) s d n h
   orphans_keep s (Finish k) h = after_finish s k (pending s k) h
   orphans_keep s (Cancel k) h = after_end s k (pending s k) h
   orphans_keep s e h = h

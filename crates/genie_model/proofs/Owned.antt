@@ -2,9 +2,6 @@
 use Rattle.std.proofs.Common.{◌≡◌, ◌≢◌, ℕ, true, refl, sym, subst, true≢false}
 use Rattle.std.specs.Prelude.{Option, Some, None, IsTrue, option_and_then, is_some}
 use Rattle.genie_base.specs.declared.event.Event.TheVariants.{Finish}
-use Rattle.genie_base.specs.declared.refusal.Refusal.{Refusal}
-use Rattle.genie_base.specs.declared.reply.Mark.{Mark}
-use Rattle.genie_base.specs.declared.reply.Mark.TheVariants as mark
 use Rattle.genie_base.specs.declared.reply.Reply.TheVariants as reply
 use Rattle.genie_base.specs.declared.semantics.Class.TheVariants.{Move}
 use Rattle.genie_base.specs.declared.semantics.Direction.{Direction}
@@ -13,13 +10,12 @@ use Rattle.genie_model.specs.Ending.{without_transfer, region_of, finish_move, f
 use Rattle.genie_model.specs.Laws.{MovesAreNotLost}
 use Rattle.genie_model.specs.Orderly.{LiesInRegion, IsOrderly}
 use Rattle.genie_model.specs.Pending.{is_inward, is_numbered, pending}
-use Rattle.genie_model.specs.Refusing.{refuse}
 use Rattle.genie_model.specs.Regions.{region_numbered}
 use Rattle.genie_model.specs.State.{State, Region, Transfer}
-use Rattle.genie_model.specs.Step.{answer}
 use Rattle.genie_model.proofs.Having.{all_has, find_has}
 use Rattle.genie_model.proofs.Naming.{fine_in}
 use Rattle.genie_model.proofs.Standing.{Fine, orderly_stand}
+use Rattle.genie_model.proofs.Stepping.{outcome_so}
 
 there : (u : Transfer) (o : Option Region) → LiesInRegion u o → is_some o ≡ true
 there u None h = absurd h
@@ -46,11 +42,5 @@ finish_kept s k t o found class =
     let fine = all_has (fine_in s) s.transfers (orderly_stand s o).each t (find_has (is_numbered k) s.transfers t found).0 in
     rw found (for_kept (without_transfer s k) t t.owner class (region_here s t t.region (subst (λ c. Fine s t c t.region) class fine)))
 
-answer_kept : (s : State) (k : ℕ) (m : Mark) (refusal : Option Refusal) → (finish s k).1 ≢ reply.Lost → (answer s (Finish k) m refusal).1 ≢ reply.Lost
-answer_kept s k m (Some refusal) kept = λ e. absurd (cc)
-answer_kept s k mark.NoFault None kept = kept
-answer_kept s k mark.Store None kept = λ e. absurd (cc)
-answer_kept s k (mark.Device n) None kept = kept
-
 pub moves_are_not_lost : MovesAreNotLost
-moves_are_not_lost s k m t o found class = answer_kept s k m (refuse s (Finish k)) (finish_kept s k t o found class)
+moves_are_not_lost s k m t o found class = outcome_so (λ x. x.1 ≢ reply.Lost) s (Finish k) (λ w e. absurd (cc)) (λ e. absurd (cc)) (λ _. finish_kept s k t o found class) (λ _ n fails. absurd (true≢false (sym fails))) m

@@ -1,5 +1,5 @@
 -- What each event does to the transfers that wait for a device, and to what it receives.
-use Rattle.std.proofs.Common.{◌≡◌, ℕ, zero, suc, ◌+◌, ◌≤◌, Bool, true, false, not, ◌&&◌, ◌==◌, ⊎_elim, List, [], ◌∷◌, ◌++◌, length, map, filter, get_or, append-nil, ◌≢◌, refl, sym, ap, subst, ◌∙◌, eqb-true, ne_eqb, true≢false, arith}
+use Rattle.std.proofs.Common.{◌≡◌, ℕ, ◌+◌, ◌≤◌, Bool, true, false, not, ◌==◌, ⊎_elim, List, [], ◌∷◌, ◌++◌, length, map, filter, append-nil, ◌≢◌, refl, sym, ap, subst, ◌∙◌, eqb-true, ne_eqb, true≢false, arith}
 use Rattle.std.specs.Prelude.{Option, Some, None, ⊤, slice_set, drop, if◌then◌else◌, is_some}
 use Rattle.std.proofs.lemmas.Bool.{cases_Bool, cases_eq, cond_both, cond-true, cond-false, and_left, and_right, and_parts, not-false}
 use Rattle.std.proofs.lemmas.List.{length-take-le, length-drop}
@@ -12,12 +12,9 @@ use Rattle.genie_base.specs.declared.event.Event.TheVariants.{Fork, Exit, Unmap,
 use Rattle.genie_base.specs.declared.refusal.Refusal.{Refusal}
 use Rattle.genie_base.specs.declared.refusal.Refusal.TheVariants.{Proc}
 use Rattle.genie_base.specs.declared.reply.Mark.{Mark}
-use Rattle.genie_base.specs.declared.reply.Mark.TheVariants as mark
 use Rattle.genie_base.specs.declared.reply.Reply.TheVariants as reply
 use Rattle.genie_base.specs.declared.semantics.Class.{Class}
 use Rattle.genie_base.specs.declared.semantics.Class.TheVariants.{Copy, Share, Move, WeakMove}
-use Rattle.genie_base.specs.declared.semantics.Direction.{Direction}
-use Rattle.genie_base.specs.declared.semantics.Direction.TheVariants.{Outward, Inward}
 use Rattle.genie_model.specs.Flat.{sent_by, sent_of}
 use Rattle.genie_model.specs.declared.datagram.Fate.{Fate}
 use Rattle.genie_model.specs.declared.datagram.Fate.TheVariants.{Matched, Skipped, Gathering}
@@ -25,27 +22,29 @@ use Rattle.genie_model.specs.declared.phase.Phase.{Phase}
 use Rattle.genie_model.specs.declared.phase.Phase.TheVariants.{Queued}
 use Rattle.genie_model.specs.State.{State, Region, Transfer, Device, Datagram}
 use Rattle.genie_model.specs.Tables.{without, entry}
-use Rattle.genie_model.specs.Regions.{place_in, reach_of, write_reach_of, regions_at, put}
-use Rattle.genie_model.specs.Pending.{is_queued, is_posted, is_ready, is_just, is_early_at, is_numbered, pending, waits_for, first_queued, add_transfer}
-use Rattle.genie_model.specs.Refusing.{has_output, is_finished, may_cancel, causes, first_cause, refuse}
-use Rattle.genie_model.specs.Space.{Outcome, remove_found, region_from, protect_found, add_copies, add_region, copy_of, spawned, accessible, stored, bytes_reached, is_move, disowned, is_posted_by, exit}
-use Rattle.genie_model.specs.Outputs.{place_reached, number_of, output_of, after_output}
-use Rattle.genie_model.specs.Inputs.{posted, with_buffer, weak_buffer, reusable, pages_for, address_or_zero}
+use Rattle.genie_model.specs.Regions.{place_in, reach_of, regions_at}
+use Rattle.genie_model.specs.Pending.{is_queued, is_posted, is_ready, is_just, is_numbered, pending, waits_for, first_queued, add_transfer}
+use Rattle.genie_model.specs.Refusing.{has_output, is_finished, may_cancel, causes, refuse}
+use Rattle.genie_model.specs.Space.{Outcome, region_from, spawned, accessible, bytes_reached, is_move, disowned, is_posted_by, exit}
+use Rattle.genie_model.specs.Outputs.{place_reached, number_of, output_of, give_up}
+use Rattle.genie_model.specs.Inputs.{posted, with_buffer}
 use Rattle.genie_model.specs.Sending.{unsent, after_sending, change_device, with_sent, must_stage, stage_bytes, send_bytes, stage_count, send_count, send_next}
 use Rattle.genie_model.specs.Receiving.{recv}
-use Rattle.genie_model.specs.Ending.{after_landing, finish_copy, finish_share, finish_move, finish_weak_move, finish_input, finish_owned, finish_for, finish_found, after_cancel, cancel_found, without_transfer, region_of}
+use Rattle.genie_model.specs.Ending.{finish_found, cancel_found, without_transfer, region_of}
 use Rattle.genie_model.specs.Orderly.{IsOrderly}
 use Rattle.genie_model.specs.Integrity.{Accepted, accepted, WasThere}
-use Rattle.genie_model.specs.Step.{answer, marked, accept, perform, failed, may_fail, uses_store, step}
-use Rattle.genie_model.proofs.Causes.{first_none}
+use Rattle.genie_model.specs.Step.{accept, perform, failed, may_fail, step}
+use Rattle.genie_model.proofs.Causes.{none_holds, second_holds}
 use Rattle.genie_model.proofs.Having.{entry_set}
 use Rattle.genie_model.proofs.Quiet.{recv_quiet}
 use Rattle.genie_model.proofs.Staying.{reached}
 use Rattle.genie_model.proofs.Queues.{plain, queue, queue-append, queue_map, queue_filter, queue_without, queue_change}
-use Rattle.genie_model.proofs.Meeting.{IsFree, MeetsOther, HasMet, OnDevice, MeetOthers, Meets, recv_keeps}
+use Rattle.genie_model.proofs.Meeting.{IsFree, MeetsOther, HasMet, OnDevice, MeetOthers, Meets, posted_idle, recv_keeps}
 use Rattle.genie_model.proofs.Records.{HasBytes, AreWaiting, IsThere, IsCall}
 use Rattle.genie_model.proofs.Turning.{Turn, still, called, turn_free}
 use Rattle.genie_model.proofs.Advancing.{TurnTo, none, send_here}
+use Rattle.genie_model.proofs.Aside.{SameBut, copies_like, remove_like, protect_like, stored_like, given_up_like, buffer_like, finish_for_like}
+use Rattle.genie_model.proofs.Stepping.{outcome_so}
 
 -- the transfers that wait take a turn, and datagrams still meet others
 abbrev pub Goes : ℕ → State → State → (List State → List Accepted) → Type 0
@@ -67,10 +66,6 @@ device_later : (q r : List Transfer) (m n : ℕ) → ((k : ℕ) → IsFree q m k
 device_later q r m n h sends None met = met
 device_later q r m n h sends (Some v) met = met_later q r m n h v.present met
 
--- only processes and orphans differ
-abbrev SameBut : State → State → Type 0
-SameBut u t = t ≡ record u { processes = t.processes; orphans = t.orphans }
-
 module _ (d : ℕ) (s : State) (meets : Meets d s) where
   goes : (t : State) (accepted : List State → List Accepted) → s.next ≤ t.next → t.config.devices ≡ s.config.devices → Serves s.devices t.devices → Turn d s (queue d t.transfers) (sent_of t d) accepted → Goes d s t accepted
   goes t accepted more config serves turn = (
@@ -87,26 +82,6 @@ module _ (d : ℕ) (s : State) (meets : Meets d s) where
 
   quiet : (t : State) → SameBut s t → Goes d s t none
   quiet t e = like s t none e (left s.transfers s.next (omega arith) refl)
-
-copies_like : (s : State) (q : ℕ) (regions : List Region) → SameBut s (add_copies s q regions)
-copies_like s q [] = refl
-copies_like s q (r ∷ regions) = copies_like (add_region s q (copy_of s r)) q regions
-
-remove_like : (s : State) (o : Option Region) → SameBut s (remove_found s o)
-remove_like s None = refl
-remove_like s (Some r) = refl
-
-protect_like : (s : State) (o : Option Region) (writable : Bool) → SameBut s (protect_found s o writable)
-protect_like s None writable = refl
-protect_like s (Some r) writable = refl
-
-stored_like : (s : State) (o : Option Region) (a : ℕ) (bytes : List ℕ) → SameBut s (stored s o a bytes)
-stored_like s None a bytes = refl
-stored_like s (Some r) a bytes = refl
-
-posted_idle : (phase : Phase) → is_posted phase ≡ true → is_queued phase ≡ false
-posted_idle Queued e = sym e
-posted_idle phase e = refl
 
 ready_idle : (phase : Phase) → is_ready phase ≡ true → is_queued phase ≡ false
 ready_idle Queued e = sym e
@@ -128,46 +103,6 @@ exit_goes d s p meets =
     like d s meets (record s { transfers = map (disowned p) rest }) (exit s p).0 none refl (left d s meets (map (disowned p) rest) s.next (omega arith) (queue_map d (disowned p) (disowned_plain p) rest ∙ queue_filter d (λ t. not (is_posted_by p t)) idle s.transfers))
 
 -- a transfer that ends
-landing_like : (s : State) (t : Transfer) (r : Region) → SameBut s (after_landing s t r)
-landing_like s t r = elim (is_early_at s t.device) as (λ b. SameBut s (if b then s else put s r.number t.offset t.payload)) [ true ↦ refl | false ↦ refl ]
-
-copy_like : (s : State) (t : Transfer) (o : Option Region) → SameBut s (finish_copy s t o).0
-copy_like s t None = refl
-copy_like s t (Some r) = refl
-
-move_like : (s : State) (t : Transfer) (o : Option Region) → SameBut s (finish_move s t o).0
-move_like s t None = refl
-move_like s t (Some r) = refl
-
-share_like : (s : State) (t : Transfer) (o : Option Region) → SameBut s (finish_share s t o).0
-share_like s t None = refl
-share_like s t (Some r) = landing_like s t r
-
-weak_move_like : (s : State) (t : Transfer) (o : Option Region) → SameBut s (finish_weak_move s t o).0
-weak_move_like s t None = refl
-weak_move_like s t (Some r) = ap (λ (x : State). record x { processes = (finish_weak_move s t (Some r)).0.processes }) (landing_like s t r)
-
-finish_input_like : (s : State) (p : ℕ) (t : Transfer) (class : Class) → SameBut s (finish_input s p t class).0
-finish_input_like s p t Copy = copy_like s t (write_reach_of s p (address_or_zero t.addr) t.len)
-finish_input_like s p t Share = share_like s t (region_of s t)
-finish_input_like s p t Move = move_like s t (region_of s t)
-finish_input_like s p t WeakMove = weak_move_like s t (region_of s t)
-
-finish_owned_like : (s : State) (p : ℕ) (t : Transfer) (direction : Direction) → SameBut s (finish_owned s p t direction).0
-finish_owned_like s p t Outward = refl
-finish_owned_like s p t Inward = finish_input_like s p t t.class
-
-pub finish_for_like : (s : State) (t : Transfer) (o : Option ℕ) → SameBut s (finish_for s t o).0
-finish_for_like s t None = refl
-finish_for_like s t (Some p) = finish_owned_like s p t t.direction
-
-cancel_like : (s : State) (class : Class) (o : Option Region) → SameBut s (after_cancel s class o)
-cancel_like s class None = refl
-cancel_like s Copy (Some r) = refl
-cancel_like s Share (Some r) = refl
-cancel_like s Move (Some r) = refl
-cancel_like s WeakMove (Some r) = refl
-
 ended_goes : (d : ℕ) (s : State) (k : ℕ) (t : Transfer) → Meets d s → pending s k ≡ Some t → is_queued t.phase ≡ false → Goes d s (without_transfer s k) none
 ended_goes d s k t meets e idle = left d s meets (without (is_numbered k) s.transfers) s.next (omega arith) (queue_without d (is_numbered k) t (and_left (is_queued t.phase) (t.device == d) idle) s.transfers e)
 
@@ -177,19 +112,9 @@ finish_goes d s k (Some t) meets e may = like d s meets (without_transfer s k) (
 
 cancel_goes : (d : ℕ) (s : State) (k : ℕ) (o : Option Transfer) → Meets d s → pending s k ≡ o → may_cancel o ≡ true → Goes d s (cancel_found s k o).0 none
 cancel_goes d s k None meets e may = absurd (true≢false (sym may))
-cancel_goes d s k (Some t) meets e may = like d s meets (without_transfer s k) (cancel_found s k (Some t)).0 none (cancel_like (without_transfer s k) t.class (region_of (without_transfer s k) t)) (ended_goes d s k t meets e (posted_idle t.phase may))
+cancel_goes d s k (Some t) meets e may = like d s meets (without_transfer s k) (cancel_found s k (Some t)).0 none (given_up_like (without_transfer s k) t.class (region_of (without_transfer s k) t)) (ended_goes d s k t meets e (posted_idle t.phase may))
 
 -- an input
-weak_like : (s : State) (p n : ℕ) (o : Option ℕ) → SameBut s (weak_buffer s p n o)
-weak_like s p n None = refl
-weak_like s p n (Some k) = refl
-
-buffer_like : (s : State) (p : ℕ) (class : Class) (n : ℕ) → SameBut s (with_buffer s p class n)
-buffer_like s p Copy n = refl
-buffer_like s p Share n = refl
-buffer_like s p Move n = refl
-buffer_like s p WeakMove n = weak_like s p n (reusable s p (pages_for s n))
-
 input_idle : (d : ℕ) (s : State) (p : ℕ) (class : Class) (to : Address) (addr : Option ℕ) (n : ℕ) → waits_for d (posted s p class to addr n) ≡ false
 input_idle d s p Copy to addr n = refl
 input_idle d s p Share to addr n = refl
@@ -237,21 +162,14 @@ module _ (s : State) (p : ℕ) (to : Address) (a n : ℕ) (r : Region) where
   new_bytes Move within = length-take-le n (drop (place_in s r a) r.bytes) (omega (arith, within, length-drop (place_in s r a) r.bytes))
   new_bytes WeakMove within = (refl, tt)
 
-after_like : (s : State) (class : Class) (o : Option Region) → SameBut s (after_output s class o)
-after_like s class None = refl
-after_like s Copy (Some r) = refl
-after_like s Share (Some r) = refl
-after_like s Move (Some r) = refl
-after_like s WeakMove (Some r) = refl
-
 output_goes : (d : ℕ) (s : State) (p : ℕ) (class : Class) (to : Address) (a n : ℕ) (o : Option Region) → IsOrderly s → Meets d s → reach_of s p a n ≡ o → is_some o ≡ true
-    → Goes d s (after_output (add_transfer s (output_of s p class to a n o)) class o) (λ later. if to.device == d then call s class to a n o later ∷ [] else [])
+    → Goes d s (give_up (add_transfer s (output_of s p class to a n o)) class o) (λ later. if to.device == d then call s class to a n o later ∷ [] else [])
 output_goes d s p class to a n None orderly meets e here = absurd (true≢false (sym here))
 output_goes d s p class to a n (Some r) orderly meets e here =
     let t : Transfer = output_of s p class to a n (Some r) in
     let u : State = add_transfer s t in
     let outputs : List State → List Accepted = λ later. if to.device == d then call s class to a n (Some r) later ∷ [] else [] in
-    like d s meets u (after_output u class (Some r)) outputs (after_like u class (Some r)) (goes d s meets u outputs (omega arith) refl (λ q m configs h. h) (⊎_elim
+    like d s meets u (give_up u class (Some r)) outputs (given_up_like u class (Some r)) (goes d s meets u outputs (omega arith) refl (λ q m configs h. h) (⊎_elim
     (λ (mine : (to.device == d) ≡ true).
     called (new s p to a n r class) (call s class to a n (Some r)) (record { moved = omega arith; staged = omega arith; bytes = new_bytes s p to a n r class (reached s p a n r orderly.regions e).within }) refl refl (is_call s p to a n r class)
     (queue-append d s.transfers (t ∷ []) ∙ ap (λ l. queue d s.transfers ++ l) (cond-true (to.device == d) (plain t ∷ []) [] mine)) refl (λ later. cond-true (to.device == d) _ _ mine))
@@ -312,7 +230,7 @@ send_goes d s dev n o w meets may =
 recv_goes : (d : ℕ) (s : State) (dev n : ℕ) → IsOrderly s → Meets d s → Goes d s (recv s dev n).0 none
 recv_goes d s dev n o meets =
     let k = recv_keeps d s dev n o.transfers meets in
-    (still k.queue ((recv_quiet s dev n).keeps.sent d) (λ later. refl), rw (k.queue, k.next, k.config) k.meets)
+    (still k.queue ((recv_quiet s dev n).sent d) (λ later. refl), rw (k.queue, k.next, k.config) k.meets)
 
 -- what is known of an event that isn't refused
 abbrev Allowed : State → Event → Type 0
@@ -356,37 +274,15 @@ failed_goes d s (Send dev n) k o w meets may fails = cond_both (k == 0) s (accep
 failed_goes d s (Recv dev n) k o w meets may fails = cond_both (k == 0) s (accept s (Recv dev k)).0 (λ t. Goes d s t none) (λ _. stays d s none meets (λ later. refl)) (λ _. accept_goes d s (Recv dev k) o w meets may)
 failed_goes d s e k o w meets may fails = absurd (true≢false (sym fails))
 
-marked_goes : (d : ℕ) (s : State) (e : Event) (m : Mark) → IsOrderly s → AreWaiting (queue d s.transfers) → Meets d s → Allowed s e → Goes d s (marked s e m).0 (accepted d s e (marked s e m).1)
-marked_goes d s e mark.NoFault o w meets may = accept_goes d s e o w meets may
-marked_goes d s e mark.Store o w meets may = cond_both (uses_store e) (s, reply.StoreFault) (accept s e) (λ (x : Outcome). Goes d s x.0 (accepted d s e x.1)) (λ _. stays d s (accepted d s e reply.StoreFault) meets (store_none d s e)) (λ _. accept_goes d s e o w meets may)
-marked_goes d s e (mark.Device k) o w meets may = cond_both (may_fail s e k) (failed s e k) (accept s e) (λ (x : Outcome). Goes d s x.0 (accepted d s e x.1)) (failed_goes d s e k o w meets may) (λ _. accept_goes d s e o w meets may)
-
-second_holds : (a b : Bool) → not (a && b) ≡ false → b ≡ true
-second_holds true true e = refl
-second_holds true false e = absurd (cc)
-second_holds false b e = absurd (cc)
-
-row : ℕ → List (Bool × Refusal) → Bool
-row n rows = (get_or rows n (false, Proc)).0
-
-none_holds : (rows : List (Bool × Refusal)) (n : ℕ) → first_cause rows ≡ None → row n rows ≡ false
-unfolding row
-none_holds [] n e = refl
-none_holds (x ∷ rows) zero e = (first_none x rows e).0
-none_holds (x ∷ rows) (suc n) e = none_holds rows n (first_none x rows e).1
-
 allowed : (s : State) (e : Event) → refuse s e ≡ None → Allowed s e
-unfolding row
-allowed s (Output p sem d port flow a n) e = second_holds _ _ (none_holds (causes s (Output p sem d port flow a n)) 2 e)
-allowed s (Send d n) e = not-false (has_output (entry s.config.devices d)) (none_holds (causes s (Send d n)) 0 e)
-allowed s (Finish k) e = not-false (is_finished (pending s k)) (none_holds (causes s (Finish k)) 0 e)
-allowed s (Cancel k) e = not-false (may_cancel (pending s k)) (none_holds (causes s (Cancel k)) 0 e)
+allowed s (Output p sem d port flow a n) e = second_holds _ _ (none_holds (causes s (Output p sem d port flow a n)) e 2 (true, Proc) (omega arith))
+allowed s (Send d n) e = not-false (has_output (entry s.config.devices d)) (none_holds (causes s (Send d n)) e 0 (true, Proc) (omega arith))
+allowed s (Finish k) e = not-false (is_finished (pending s k)) (none_holds (causes s (Finish k)) e 0 (true, Proc) (omega arith))
+allowed s (Cancel k) e = not-false (may_cancel (pending s k)) (none_holds (causes s (Cancel k)) e 0 (true, Proc) (omega arith))
 allowed s e h = tt
-
-answer_goes : (d : ℕ) (s : State) (e : Event) (m : Mark) (r : Option Refusal) → refuse s e ≡ r → IsOrderly s → AreWaiting (queue d s.transfers) → Meets d s → Goes d s (answer s e m r).0 (accepted d s e (answer s e m r).1)
-answer_goes d s e m None h o w meets = marked_goes d s e m o w meets (allowed s e h)
-answer_goes d s e m (Some refusal) h o w meets = stays d s (accepted d s e (reply.Err refusal)) meets (refused_none d s e refusal)
 
 -- one step
 pub step_goes : (d : ℕ) (s : State) (e : Event) (m : Mark) → IsOrderly s → AreWaiting (queue d s.transfers) → Meets d s → Goes d s (step s e m).0 (accepted d s e (step s e m).1)
-step_goes d s e m o w meets = answer_goes d s e m (refuse s e) refl o w meets
+step_goes d s e m o w meets = outcome_so (λ (x : Outcome). Goes d s x.0 (accepted d s e x.1)) s e
+    (λ refusal. stays d s (accepted d s e (reply.Err refusal)) meets (refused_none d s e refusal)) (stays d s (accepted d s e reply.StoreFault) meets (store_none d s e))
+    (λ none. accept_goes d s e o w meets (allowed s e none)) (λ none k fails. failed_goes d s e k o w meets (allowed s e none) fails) m

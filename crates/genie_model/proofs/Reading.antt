@@ -1,5 +1,5 @@
 -- The bytes of a range that a transfer names: as many as its places, each the one that stands in its place.
-use Rattle.std.proofs.Common.{◌≡◌, ℕ, zero, suc, ◌+◌, ◌<◌, ◌≤◌, true, false, ◌==◌, ◌⊎◌, inl, inr, ⊎_elim, List, [], ◌∷◌, ◌++◌, length, get_or, AllPairs, refl, sym, ap, ap₂, subst, ◌∙◌, add-one, eqb-true, arith}
+use Rattle.std.proofs.Common.{◌≡◌, ℕ, zero, suc, ◌+◌, ◌<◌, ◌≤◌, true, false, ◌==◌, ◌⊎◌, inl, inr, ⊎_elim, List, [], ◌∷◌, ◌++◌, length, get_or, AllPairs, refl, sym, ap, ap₂, ◌∙◌, add-one, eqb-true, arith}
 use Rattle.std.specs.Prelude.{Option, Some, None, ⊤, All}
 use Rattle.std.specs.List.{list_any}
 use Rattle.std.proofs.Math.Seq.{drop-cons}
@@ -8,12 +8,12 @@ use Rattle.std.proofs.lemmas.Bool.Decides.{nat_tests}
 use Rattle.std.proofs.lemmas.List.Elements.{All-head, All-tail}
 use Rattle.genie_base.specs.Bytes.{part}
 use Rattle.genie_model.specs.State.{State, Region, Orphan, Transfer}
-use Rattle.genie_model.specs.Regions.{is_region, is_orphan, region_numbered, orphan_numbered, is_within_range, byte_within, bytes_within, orphan_part, region_part, bytes_of}
+use Rattle.genie_model.specs.Regions.{is_orphan, region_numbered, orphan_numbered, is_within_range, byte_within, bytes_within, orphan_part, region_part, bytes_of}
 use Rattle.genie_model.specs.Sending.{named_bytes}
 use Rattle.genie_model.specs.Orderly.{LiesInRegion, LiesInOrphan, Lies, IsOrderly}
 use Rattle.genie_model.specs.Integrity.{Stood}
-use Rattle.genie_model.proofs.Having.{all_has, any_has, find_has, find_none, pairs_head, pairs_tail}
-use Rattle.genie_model.proofs.Finding.{all_of, region_found, differ, no_orphan}
+use Rattle.genie_model.proofs.Having.{all_has, any_has, find_has, pairs_head, pairs_tail}
+use Rattle.genie_model.proofs.Finding.{number_has, no_orphan_at}
 
 abbrev Below : ℕ × ℕ → ℕ × ℕ → Type 0
 Below a b = a.0 < b.0
@@ -100,9 +100,7 @@ rising s k None h e = tt
 rising s k (Some o) h e = all_has (λ (o : Orphan). AllPairs Below o.bytes) s.orphans h.order o (find_has (is_orphan k) s.orphans o e).0
 
 no_orphan_there : (s : State) (k : ℕ) → IsOrderly s → (r : Region) → region_numbered s k ≡ Some r → orphan_numbered s k ≡ None
-no_orphan_there s k h r e =
-    let found = find_has (is_region k) (all_of s.processes) r (sym (region_found s k) ∙ e) in
-    find_none (is_orphan k) s.orphans (subst (λ n. list_any (is_orphan n) s.orphans ≡ false) (eqb-true r.number k found.1) (no_orphan s.orphans (all_of s.processes) (differ s h.numbers) r found.0))
+no_orphan_there s k h r e = let found = number_has s k r e in no_orphan_at s h.numbers r found.0 k (eqb-true r.number k found.1)
 
 -- the bytes of this range stand in their places
 pub record Stands (s : State) (region : Option ℕ) (x n : ℕ) (bytes : List ℕ) : Type 0 where

@@ -1,5 +1,5 @@
 -- Only inputs are posted, and devices receive for inputs alone, after every step.
-use Rattle.std.proofs.Common.{◌≡◌, ℕ, ◌+◌, ◌≤◌, Bool, true, List, [], ◌∷◌, map, filter, All, refl, sym, subst, true≢false, arith}
+use Rattle.std.proofs.Common.{◌≡◌, ℕ, ◌+◌, ◌≤◌, true, List, [], map, filter, All, refl, sym, subst, true≢false, arith, ap}
 use Rattle.std.specs.Prelude.{Option, Some, None, IfSome, not, ◌==◌, if◌then◌else◌}
 use Rattle.std.proofs.lemmas.Bool.{cond_both}
 use Rattle.std.proofs.lemmas.List.Elements.{All-map, All-filter, All-push, All-weaker}
@@ -9,29 +9,28 @@ use Rattle.genie_base.specs.declared.event.Event.{Event}
 use Rattle.genie_base.specs.declared.event.Event.TheVariants.{Fork, Exit, Unmap, Protect, Write, Output, Input, Send, Recv, Finish, Cancel}
 use Rattle.genie_base.specs.declared.semantics.Class.{Class}
 use Rattle.genie_base.specs.declared.semantics.Class.TheVariants.{Copy, Share, Move, WeakMove}
-use Rattle.genie_base.specs.declared.semantics.Direction.{Direction}
-use Rattle.genie_base.specs.declared.semantics.Direction.TheVariants.{Outward, Inward}
 use Rattle.genie_model.specs.declared.datagram.Fate.{Fate}
 use Rattle.genie_model.specs.declared.datagram.Fate.TheVariants.{Matched, Skipped, Gathering}
 use Rattle.genie_model.specs.declared.phase.Phase.TheVariants.{Ready}
 use Rattle.genie_model.specs.Laws.{Stays}
 use Rattle.genie_model.specs.Orderly.{PostedAreInputs, IsInput, GoesToInput, IsUnderWay, ReceivesForInput, MatchedAreInputs, IsOrderly}
-use Rattle.genie_model.specs.State.{State, Region, Transfer, Device, Datagram}
+use Rattle.genie_model.specs.State.{State, Transfer, Device, Datagram}
 use Rattle.genie_model.specs.Tables.{entry}
-use Rattle.genie_model.specs.Regions.{regions_at, reach_of, write_reach_of, put}
-use Rattle.genie_model.specs.Pending.{is_early_at, is_inward, is_just, is_numbered, is_posted, waits_for, first_queued, pending, add_transfer}
-use Rattle.genie_model.specs.Space.{add_region, copy_of, add_copies, accessible, spawned, remove_found, region_from, protect_found, stored, is_move, disowned, is_posted_by}
-use Rattle.genie_model.specs.Outputs.{output_of, after_output}
-use Rattle.genie_model.specs.Inputs.{posted, with_buffer, weak_buffer, reusable, pages_for, address_or_zero}
+use Rattle.genie_model.specs.Regions.{regions_at, reach_of}
+use Rattle.genie_model.specs.Pending.{is_inward, is_just, is_numbered, is_posted, waits_for, first_queued, pending, add_transfer}
+use Rattle.genie_model.specs.Space.{accessible, spawned, region_from, is_move, disowned, is_posted_by}
+use Rattle.genie_model.specs.Outputs.{output_of}
+use Rattle.genie_model.specs.Inputs.{posted}
 use Rattle.genie_model.specs.Sending.{change_device, with_sent, next_part, after_sending, unsent, must_stage, send_count, send_next}
 use Rattle.genie_model.specs.Receiving.{recv}
-use Rattle.genie_model.specs.Ending.{without_transfer, region_of, finish_copy, finish_share, finish_move, finish_weak_move, finish_input, finish_owned, finish_for, finish_found, after_landing, after_cancel, cancel_found}
+use Rattle.genie_model.specs.Ending.{without_transfer, region_of, finish_found, cancel_found}
 use Rattle.genie_model.specs.Step.{accept, perform}
 use Rattle.genie_model.proofs.Arriving.{choice}
 use Rattle.genie_model.proofs.Covered.{IsKnown, received}
 use Rattle.genie_model.proofs.Having.{entry_set}
 use Rattle.genie_model.proofs.Naming.{all_change, all_without}
 use Rattle.genie_model.proofs.Stepping.{step_so}
+use Rattle.genie_model.proofs.Aside.{SameBut, copies_like, remove_like, protect_like, stored_like, given_up_like, buffer_like, finish_for_like}
 
 -- a transfer is an input where it is posted, or where a device may receive for it
 record IsOld (s : State) (t : Transfer) : Type 0 where
@@ -59,42 +58,16 @@ begins : (s : State) → IsOrderly s → Lasts s s
 begins s o = (λ i d lt. record { posted = o.posted i d lt; input = λ e is. is.1 i d lt refl }, o.matched, omega arith)
 
 module _ (s : State) where
-  after_copies : (t : State) (q : ℕ) (regions : List Region) → Lasts s t → Lasts s (add_copies t q regions)
-  after_copies t q [] h = h
-  after_copies t q (r ∷ regions) h = after_copies (add_region t q (copy_of t r)) q regions h
+  alike : (t u : State) → SameBut t u → Lasts s t → Lasts s u
+  alike t u e h = subst (Lasts s) (sym e) h
 
   after_exit : (p : ℕ) (ts : List Transfer) → All (IsOld s) ts → All (IsOld s) (map (disowned p) (filter (λ t. not (is_posted_by p t)) ts))
   after_exit p ts h = All-map (IsOld s) (disowned p) (filter (λ t. not (is_posted_by p t)) ts)
       (All-weaker (IsOld s) (λ t. IsOld s (disowned p t)) (λ t old. cond_both (is_just t.owner p) (record t { owner = None; region = if is_move t.class then None else t.region }) t (IsOld s) (λ _. record { posted = old.posted; input = old.input }) (λ _. old))
       (filter (λ t. not (is_posted_by p t)) ts) (All-filter (λ t. not (is_posted_by p t)) (IsOld s) ts h))
 
-  after_removal : (t : State) (o : Option Region) → Lasts s t → Lasts s (remove_found t o)
-  after_removal t None h = h
-  after_removal t (Some r) h = h
-
-  after_mode : (t : State) (o : Option Region) (writable : Bool) → Lasts s t → Lasts s (protect_found t o writable)
-  after_mode t None writable h = h
-  after_mode t (Some r) writable h = h
-
-  after_store : (t : State) (o : Option Region) (a : ℕ) (bytes : List ℕ) → Lasts s t → Lasts s (stored t o a bytes)
-  after_store t None a bytes h = h
-  after_store t (Some r) a bytes h = h
-
   after_call : (t : State) (u : Transfer) → IsOld s u → Lasts s t → Lasts s (add_transfer t u)
   after_call t u old h = (All-push (IsOld s) t.transfers u h.0 old, h.1, omega (arith, h.2))
-
-  after_move_out : (t : State) (class : Class) (o : Option Region) → Lasts s t → Lasts s (after_output t class o)
-  after_move_out t class None h = h
-  after_move_out t Copy (Some r) h = h
-  after_move_out t class (Some r) h = h
-
-  after_weak : (t : State) (p n : ℕ) (u : Transfer) (o : Option ℕ) → Lasts s (add_transfer t u) → Lasts s (add_transfer (weak_buffer t p n o) u)
-  after_weak t p n u None h = h
-  after_weak t p n u (Some k) h = h
-
-  after_buffer : (t : State) (p : ℕ) (class : Class) (n : ℕ) (u : Transfer) → Lasts s (add_transfer t u) → Lasts s (add_transfer (with_buffer t p class n) u)
-  after_buffer t p WeakMove n u h = after_weak t p n u (reusable t p (pages_for t n)) h
-  after_buffer t p class n u h = h
 
   posted_inward : (p : ℕ) (class : Class) (to : Address) (a : Option ℕ) (n : ℕ) → (is_inward (posted s p class to a n).direction ≡ true) × ((posted s p class to a n).number ≡ s.next)
   posted_inward p Copy to a n = (refl, refl)
@@ -118,54 +91,16 @@ module _ (s : State) where
         h.2,
       )
 
-  after_land : (t : State) (u : Transfer) (r : Region) → Lasts s t → Lasts s (after_landing t u r)
-  after_land t u r h = cond_both (is_early_at t u.device) t (put t r.number u.offset u.payload) (Lasts s) (λ _. h) (λ _. h)
-
-  after_copy : (t : State) (u : Transfer) (o : Option Region) → Lasts s t → Lasts s (finish_copy t u o).0
-  after_copy t u None h = h
-  after_copy t u (Some r) h = h
-
-  after_share : (t : State) (u : Transfer) (o : Option Region) → Lasts s t → Lasts s (finish_share t u o).0
-  after_share t u None h = h
-  after_share t u (Some r) h = after_land t u r h
-
-  after_move : (t : State) (u : Transfer) (o : Option Region) → Lasts s t → Lasts s (finish_move t u o).0
-  after_move t u None h = h
-  after_move t u (Some r) h = h
-
-  after_weak_move : (t : State) (u : Transfer) (o : Option Region) → Lasts s t → Lasts s (finish_weak_move t u o).0
-  after_weak_move t u None h = h
-  after_weak_move t u (Some r) h = after_land t u r h
-
-  after_input : (t : State) (p : ℕ) (u : Transfer) (class : Class) → Lasts s t → Lasts s (finish_input t p u class).0
-  after_input t p u Copy h = after_copy t u (write_reach_of t p (address_or_zero u.addr) u.len) h
-  after_input t p u Share h = after_share t u (region_of t u) h
-  after_input t p u Move h = after_move t u (region_of t u) h
-  after_input t p u WeakMove h = after_weak_move t u (region_of t u) h
-
-  after_owned : (t : State) (p : ℕ) (u : Transfer) (direction : Direction) → Lasts s t → Lasts s (finish_owned t p u direction).0
-  after_owned t p u Outward h = h
-  after_owned t p u Inward h = after_input t p u u.class h
-
-  after_for : (t : State) (u : Transfer) (o : Option ℕ) → Lasts s t → Lasts s (finish_for t u o).0
-  after_for t u None h = h
-  after_for t u (Some p) h = after_owned t p u u.direction h
-
   after_end : (t : State) (k : ℕ) → Lasts s t → Lasts s (without_transfer t k)
   after_end t k h = (all_without (IsOld s) (is_numbered k) t.transfers h.0, h.1, h.2)
 
   after_finish : (t : State) (k : ℕ) (o : Option Transfer) → Lasts s t → Lasts s (finish_found t k o).0
   after_finish t k None h = h
-  after_finish t k (Some u) h = after_for (without_transfer t k) u u.owner (after_end t k h)
-
-  after_giving_up : (t : State) (class : Class) (o : Option Region) → Lasts s t → Lasts s (after_cancel t class o)
-  after_giving_up t class None h = h
-  after_giving_up t Copy (Some r) h = h
-  after_giving_up t class (Some r) h = h
+  after_finish t k (Some u) h = alike (without_transfer t k) _ (finish_for_like (without_transfer t k) u u.owner) (after_end t k h)
 
   after_cancelled : (t : State) (k : ℕ) (o : Option Transfer) → Lasts s t → Lasts s (cancel_found t k o).0
   after_cancelled t k None h = h
-  after_cancelled t k (Some u) h = after_giving_up (without_transfer t k) u.class (region_of (without_transfer t k) u) (after_end t k h)
+  after_cancelled t k (Some u) h = alike (without_transfer t k) _ (given_up_like (without_transfer t k) u.class (region_of (without_transfer t k) u)) (after_end t k h)
 
   after_recv : (d n : ℕ) → IsOrderly s → Lasts s (recv s d n).0
   after_recv d n o =
@@ -174,18 +109,19 @@ module _ (s : State) where
       (All-weaker (IsKnown s) (IsOld s) (λ t known. record { posted = λ e. (known.input t.device (known.posted e)).0; input = known.input }) (recv s d n).0.transfers r.transfers, r.devices, omega (arith, next))
 
   performed : (e : Event) → IsOrderly s → Lasts s s → Lasts s (perform s e).0
-  performed (Fork p q) o h = after_copies (spawned s q) q (accessible (regions_at s p)) h
+  performed (Fork p q) o h = alike s _ (copies_like (spawned s q) q (accessible (regions_at s p))) h
   performed (Exit p) o h = (after_exit p s.transfers h.0, h.1, h.2)
-  performed (Unmap p g) o h = after_removal s (region_from s p g) h
-  performed (Protect p g writable) o h = after_mode s (region_from s p g) writable h
-  performed (Write p a bytes) o h = after_store s _ a bytes h
+  performed (Unmap p g) o h = alike s _ (remove_like s (region_from s p g)) h
+  performed (Protect p g writable) o h = alike s _ (protect_like s (region_from s p g) writable) h
+  performed (Write p a bytes) o h = alike s _ (stored_like s _ a bytes) h
   performed (Output p sem d port flow a n) o h =
       let u : Transfer = output_of s p (class_of sem) (record { device = d; port = port; flow = flow }) a n (reach_of s p a n) in
-      after_move_out (add_transfer s u) (class_of sem) (reach_of s p a n) (after_call s u (record { posted = λ e. absurd (true≢false (sym e)); input = λ e is. absurd (omega (arith, is.0)) }) h)
+      alike (add_transfer s u) _ (given_up_like (add_transfer s u) (class_of sem) (reach_of s p a n)) (after_call s u (record { posted = λ e. absurd (true≢false (sym e)); input = λ e is. absurd (omega (arith, is.0)) }) h)
   performed (Input p sem d port flow a n) o h =
       let to : Address = record { device = d; port = port; flow = flow } in
+      let u : Transfer = posted s p (class_of sem) to a n in
       let inward = posted_inward p (class_of sem) to a n in
-      after_buffer s p (class_of sem) n (posted s p (class_of sem) to a n) (after_call s (posted s p (class_of sem) to a n) (record { posted = λ _. inward.0; input = λ e is. absurd (omega (arith, inward.1, is.0)) }) h)
+      alike (add_transfer s u) _ (ap (λ (x : State). add_transfer x u) (buffer_like s p (class_of sem) n)) (after_call s u (record { posted = λ _. inward.0; input = λ e is. absurd (omega (arith, inward.1, is.0)) }) h)
   performed (Send d n) o h = after_send s d n (first_queued s d) h
   performed (Recv d n) o h = after_recv d n o
   performed (Finish k) o h = after_finish s k (pending s k) h

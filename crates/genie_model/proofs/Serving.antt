@@ -1,18 +1,15 @@
 -- What transfers name is there after every step.
-use Rattle.std.proofs.Common.{◌≡◌, ℕ, ◌<◌, Bool, true, false, not, List, length, refl, true≢false, arith}
-use Rattle.std.specs.Prelude.{Option, Some, None, ⊤, nat_lt, ◌==◌, is_some}
-use Rattle.std.proofs.lemmas.Bool.{cond_both, and_parts, or_parts}
-use Rattle.std.proofs.lemmas.Bool.Decides.{nat_tests}
+use Rattle.std.proofs.Common.{◌≡◌, ℕ, ◌<◌, Bool, true, false, List, length, refl, true≢false, arith}
+use Rattle.std.specs.Prelude.{Option, Some, None, ⊤, ◌==◌, is_some}
+use Rattle.std.proofs.lemmas.Bool.{and_parts, not-false}
 use Rattle.genie_base.specs.Regions.{is_accessible}
 use Rattle.genie_base.specs.Transfers.{class_of, is_system}
 use Rattle.genie_base.specs.declared.event.Event.{Event}
 use Rattle.genie_base.specs.declared.event.Event.TheVariants.{Spawn, Fork, Exit, Map, Alloc, Unmap, Protect, Read, Write, Output, Input, Send, Recv, Finish, Cancel, Pageout}
-use Rattle.genie_base.specs.declared.refusal.Refusal.{Refusal}
 use Rattle.genie_base.specs.declared.refusal.Refusal.TheVariants as cause
 use Rattle.genie_base.specs.declared.region.Area.TheVariants.{App}
 use Rattle.genie_base.specs.declared.region.RegionState.TheVariants.{Live}
 use Rattle.genie_base.specs.declared.reply.Mark.{Mark}
-use Rattle.genie_base.specs.declared.reply.Mark.TheVariants as mark
 use Rattle.genie_base.specs.declared.semantics.Class.{Class}
 use Rattle.genie_base.specs.declared.semantics.Class.TheVariants.{Copy, Share, Move, WeakMove}
 use Rattle.genie_model.specs.Refusing.{first_cause, causes, target_causes, refuse}
@@ -22,10 +19,9 @@ use Rattle.genie_model.specs.Regions.{regions_at, is_alive, place_in, reach_of}
 use Rattle.genie_model.specs.Pending.{pending}
 use Rattle.genie_model.specs.Inputs.{address_or_zero}
 use Rattle.genie_model.specs.Space.{zeros, zeros_at_place, remove_found, region_from, starts_at, protect_found, stored}
-use Rattle.genie_model.specs.Step.{Outcome, perform, accept, may_fail, uses_store, with_budget, failed, marked, answer, step}
+use Rattle.genie_model.specs.Step.{perform, accept, with_budget, step}
 use Rattle.genie_model.specs.Orderly.{RangesLie, HeldForOne, IsOrderly}
-use Rattle.genie_model.proofs.Accepting.{none_holds, second_holds}
-use Rattle.genie_model.proofs.Causes.{both_none}
+use Rattle.genie_model.proofs.Causes.{none_holds, second_holds, both_none}
 use Rattle.genie_model.proofs.Having.{find_has}
 use Rattle.genie_model.proofs.Finding.{has_region}
 use Rattle.genie_model.proofs.Standing.{orderly_stand, accessible_free, tidied_ranges, tidied_holds}
@@ -35,6 +31,8 @@ use Rattle.genie_model.proofs.Calling.{output_stands, input_stands}
 use Rattle.genie_model.proofs.Landing.{sent_stands, received_stands}
 use Rattle.genie_model.proofs.Finishing.{finished_stands, cancelled_stands}
 use Rattle.genie_model.proofs.Unused.{few_numbers}
+use Rattle.genie_model.proofs.Stepping.{event_so}
+use Rattle.genie_model.proofs.Accepted.{spawn_accepted, fork_accepted}
 
 -- what is known of an event that isn't refused
 abbrev Allowed : State → Event → Type 0
@@ -44,17 +42,9 @@ Allowed s (Output p sem d port flow a n) = is_some (reach_of s p a n) ≡ true
 Allowed s (Input p sem d port flow a n) = (is_alive s p ≡ true) × (is_system (class_of sem) ≡ false → is_some (reach_of s p (address_or_zero a) n) ≡ true)
 Allowed s _ = ⊤
 
-none_here : {X : Type 0} (o : Option X) → is_some o ≡ false → o ≡ None
-none_here None e = refl
-none_here (Some x) e = absurd (cc)
-
 alive_entry : {X : Type 0} (o : Option X) → is_some o ≡ true → (x : X) × (o ≡ Some x)
 alive_entry None e = absurd (cc)
 alive_entry (Some x) e = (x, refl)
-
-not_false : (b : Bool) → not b ≡ false → b ≡ true
-not_false true e = refl
-not_false false e = absurd (cc)
 
 -- a buffer of the application's is reached
 app_here : (s : State) (p : ℕ) (class : Class) (d a n : ℕ) → first_cause (target_causes s p class d a n) ≡ None → is_system class ≡ false → is_some (reach_of s p a n) ≡ true
@@ -64,15 +54,12 @@ app_here s p Move d a n e app = absurd (true≢false app)
 app_here s p WeakMove d a n e app = absurd (true≢false app)
 
 allowed : (s : State) (e : Event) → refuse s e ≡ None → Allowed s e
-allowed s (Spawn p) h = none_here (entry s.processes p) (none_holds (causes s (Spawn p)) h 1 (true, cause.Proc) (omega arith))
-allowed s (Fork p q) h =
-    let none = none_holds (causes s (Fork p q)) h in
-    let high = (or_parts (not (is_alive s p)) (nat_lt 15 q) (none 0 (true, cause.Proc) (omega arith))).1 in
-    (grind (arith, nat_tests), none_here (entry s.processes q) (none 1 (true, cause.Proc) (omega arith)))
+allowed s (Spawn p) h = spawn_accepted s p h
+allowed s (Fork p q) h = let new = fork_accepted s p q h in (new.place, new.free)
 allowed s (Output p sem d port flow a n) h = second_holds _ _ (none_holds (causes s (Output p sem d port flow a n)) h 2 (true, cause.Proc) (omega arith))
 allowed s (Input p sem d port flow a n) h =
     let none = (both_none (target_causes s p (class_of sem) d (address_or_zero a) n) _ h).0 in
-    (not_false (is_alive s p) (none_holds (target_causes s p (class_of sem) d (address_or_zero a) n) none 0 (true, cause.Proc) (omega arith)), app_here s p (class_of sem) d (address_or_zero a) n none)
+    (not-false (is_alive s p) (none_holds (target_causes s p (class_of sem) d (address_or_zero a) n) none 0 (true, cause.Proc) (omega arith)), app_here s p (class_of sem) d (address_or_zero a) n none)
 allowed s e h = tt
 
 remove_stands_found : (s : State) (p g : ℕ) (o : Option Region) → IsOrderly s → region_from s p g ≡ o → Stands s → Stands (remove_found s o)
@@ -127,17 +114,5 @@ budget_allowed s (Send d n) k h = tt
 budget_allowed s (Recv d n) k h = tt
 budget_allowed s e k h = h
 
-failed_well : (s : State) (e : Event) (k : ℕ) → IsOrderly s → Allowed s e → NamesWell (failed s e k).0
-failed_well s e k o may = cond_both (k == 0) s (accept s (with_budget e k)).0 NamesWell (λ _. same s o) (λ _. accept_well s (with_budget e k) o (budget_allowed s e k may))
-
-marked_well : (s : State) (e : Event) (m : Mark) → IsOrderly s → Allowed s e → NamesWell (marked s e m).0
-marked_well s e mark.NoFault o may = accept_well s e o may
-marked_well s e mark.Store o may = cond_both (uses_store e) _ (accept s e) (λ (x : Outcome). NamesWell x.0) (λ _. same s o) (λ _. accept_well s e o may)
-marked_well s e (mark.Device k) o may = cond_both (may_fail s e k) (failed s e k) (accept s e) (λ (x : Outcome). NamesWell x.0) (λ _. failed_well s e k o may) (λ _. accept_well s e o may)
-
-answer_well : (s : State) (e : Event) (m : Mark) (refusal : Option Refusal) → refuse s e ≡ refusal → IsOrderly s → NamesWell (answer s e m refusal).0
-answer_well s e m None h o = marked_well s e m o (allowed s e h)
-answer_well s e m (Some refusal) h o = same s o
-
 pub step_well : (s : State) (e : Event) (m : Mark) → IsOrderly s → NamesWell (step s e m).0
-step_well s e m o = answer_well s e m (refuse s e) refl o
+step_well s e m o = event_so NamesWell s (same s o) e (λ none. accept_well s e o (allowed s e none)) (λ none k. accept_well s (with_budget e k) o (budget_allowed s e k (allowed s e none))) m

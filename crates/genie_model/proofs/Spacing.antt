@@ -1,6 +1,6 @@
 -- What is so of the processes and their regions after every step.
-use Rattle.std.proofs.Common.{◌≡◌, ℕ, zero, suc, ◌+◌, ◌*◌, ◌<◌, ◌≤◌, Bool, true, false, not, List, [], ◌∷◌, length, refl, ap, ◌∙◌, arith, length-set}
-use Rattle.std.specs.Prelude.{Option, Some, None, All, cond, sum_by, slice_set, ◌==◌, unwrap_or, is_some}
+use Rattle.std.proofs.Common.{◌≡◌, ℕ, zero, suc, ◌+◌, ◌*◌, ◌<◌, ◌≤◌, true, false, not, List, [], ◌∷◌, length, refl, ap, ◌∙◌, arith, length-set}
+use Rattle.std.specs.Prelude.{Option, Some, None, All, cond, sum_by, slice_set, unwrap_or, is_some}
 use Rattle.std.proofs.lemmas.Bool.Decides.{nat_tests}
 use Rattle.std.proofs.lemmas.List.{length-replicate}
 use Rattle.std.proofs.lemmas.List.Elements.{All-head, All-tail, All-weaker, All-set, All-filter}
@@ -11,28 +11,26 @@ use Rattle.genie_base.specs.Regions.{AreInOrder, is_accessible}
 use Rattle.genie_base.specs.Transfers.{class_of}
 use Rattle.genie_base.specs.declared.event.Event.{Event}
 use Rattle.genie_base.specs.declared.event.Event.TheVariants.{Spawn, Fork, Exit, Map, Alloc, Unmap, Protect, Read, Write, Output, Input, Send, Recv, Finish, Cancel, Pageout}
-use Rattle.genie_base.specs.declared.refusal.Refusal.{Refusal}
 use Rattle.genie_base.specs.declared.region.Area.TheVariants.{App, Sys}
 use Rattle.genie_base.specs.declared.region.RegionState.TheVariants.{Live, In, Held}
-use Rattle.genie_base.specs.declared.reply.Mark.{Mark}
-use Rattle.genie_base.specs.declared.reply.Mark.TheVariants as mark
 use Rattle.genie_base.specs.declared.semantics.Class.{Class}
 use Rattle.genie_base.specs.declared.semantics.Class.TheVariants.{Copy, Share, Move, WeakMove}
 use Rattle.genie_model.specs.Inputs.{with_buffer, weak_buffer, reusable, pages_for}
 use Rattle.genie_model.specs.Laws.{Stays}
 use Rattle.genie_model.specs.Orderly.{IsOrderly, IsRegion, AreApart, RegionsAreApart, CommittedIsBounded}
-use Rattle.genie_model.specs.Outputs.{output_of}
-use Rattle.genie_model.specs.Pending.{first_queued, pending}
+use Rattle.genie_model.specs.Pending.{first_queued, pending, add_transfer}
 use Rattle.genie_model.specs.Refusing.{refuse, must_make, accessible_pages}
 use Rattle.genie_model.specs.Regions.{extent_of, regions_of, regions_at, region_pages, committed, place_of, reach_of, change_process}
-use Rattle.genie_model.specs.Space.{Outcome, spawned, zeros, zeros_at_place, with_region, add_region, region_from, accessible, copy_of, add_copies, fork}
+use Rattle.genie_model.specs.Space.{spawned, zeros, zeros_at_place, with_region, add_region, region_from, accessible, copy_of, add_copies, fork}
 use Rattle.genie_model.specs.State.{State, Region, Process}
-use Rattle.genie_model.specs.Step.{answer, marked, accept, perform, failed, may_fail, uses_store, with_budget}
+use Rattle.genie_model.specs.Step.{accept, perform, with_budget}
 use Rattle.genie_model.specs.Tables.{entry}
 use Rattle.genie_model.proofs.Accepted.{IsNew, map_accepted, alloc_accepted, input_accepted, fork_accepted, page_some}
-use Rattle.genie_model.proofs.Apart.{Before, all_added, sum_added, one_more, pairs_head, pairs_tail, clear}
+use Rattle.genie_model.proofs.Apart.{Before, all_added, sum_added, one_more, clear}
 use Rattle.genie_model.proofs.Forking.{added_few}
-use Rattle.genie_model.proofs.Shrinking.{KeepsTable, set_sum, spawned_keeps, exit_keeps, unmap_keeps, protect_keeps, stored_keeps, output_keeps, moved_in_keeps, send_keeps, recv_keeps, finish_keeps, cancel_keeps}
+use Rattle.genie_model.proofs.Shrinking.{KeepsTable, set_sum, spawned_keeps, exit_keeps, unmap_keeps, protect_keeps, stored_keeps, given_up_keeps, moved_in_keeps, send_keeps, received_keeps, finish_keeps, cancel_keeps}
+use Rattle.genie_model.proofs.Stepping.{event_so}
+use Rattle.genie_model.proofs.Having.{at_entry, pairs_all, pairs_tail}
 
 -- 16 processes, whose regions are apart and fit the store
 pub record SpacedTable (c : Config) (processes : List (Option Process)) : Type 0 where
@@ -53,12 +51,6 @@ kept {c} k h =
 
 pub none_apart : (page : ℕ) → AreApart page []
 none_apart page = record { few = omega arith; order = λ i j d l m. absurd (omega arith); each = λ k d l. absurd (omega arith) }
-
--- what is so of each process, and where there is none
-pub at_entry : (P : Option Process → Type 0) (processes : List (Option Process)) (p : ℕ) → P None → All P processes → P (entry processes p)
-at_entry P [] p none h = none
-at_entry P (x ∷ processes) zero none h = All-head P x processes h
-at_entry P (x ∷ processes) (suc p) none h = at_entry P processes p none (All-tail P x processes h)
 
 pub apart_at : (s : State) (p : ℕ) → IsSpaced s → AreApart s.config.page (regions_at s p)
 apart_at s p h = at_entry (λ (x : Option Process). AreApart s.config.page (regions_of x)) s.processes p (none_apart s.config.page) h.apart
@@ -124,7 +116,7 @@ takes_rest s q r regions t =
     record {
       each = All-tail (IsRegion s.config.page) r regions t.each;
       order = pairs_tail (Before extent_of) r regions t.order;
-      behind = in_table (λ (x : Region). All (Before extent_of x) regions) (copy_of s r) s.processes q (pairs_head (Before extent_of) r regions t.order) (All-weaker (λ (x : Region). All (Before extent_of x) (r ∷ regions)) (λ (x : Region). All (Before extent_of x) regions) (λ x h. All-tail (Before extent_of x) r regions h) (regions_at s q) t.behind);
+      behind = in_table (λ (x : Region). All (Before extent_of x) regions) (copy_of s r) s.processes q (pairs_all (Before extent_of) r regions t.order) (All-weaker (λ (x : Region). All (Before extent_of x) (r ∷ regions)) (λ (x : Region). All (Before extent_of x) regions) (λ x h. All-tail (Before extent_of x) r regions h) (regions_at s q) t.behind);
       few = omega (arith, few, t.few);
       backing = omega (arith, pages, t.backing, sum_by-cons (λ (x : Region). x.pages) r regions);
     }
@@ -181,40 +173,23 @@ perform_spaced s (Unmap p g) e page h = kept (unmap_keeps s (region_from s p g))
 perform_spaced s (Protect p g writable) e page h = kept (protect_keeps s (region_from s p g) writable) h
 perform_spaced s (Read p a n) e page h = h
 perform_spaced s (Write p a bytes) e page h = kept (stored_keeps s _ a bytes) h
-perform_spaced s (Output p sem d port flow a n) e page h = kept (output_keeps s (output_of s p (class_of sem) (record { device = d; port = port; flow = flow }) a n (reach_of s p a n)) (class_of sem) (reach_of s p a n)) h
+perform_spaced s (Output p sem d port flow a n) e page h = kept (given_up_keeps (add_transfer s _) (class_of sem) (reach_of s p a n)) h
 perform_spaced s (Input p sem d port flow a n) e page h = input_spaced s p (class_of sem) n (input_accepted s p (class_of sem) d _ n _ page e) h
 perform_spaced s (Send d n) e page h = kept (send_keeps s d n (first_queued s d)) h
-perform_spaced s (Recv d n) e page h = kept (recv_keeps s d n) h
+perform_spaced s (Recv d n) e page h = kept (received_keeps s d n) h
 perform_spaced s (Finish k) e page h = kept (finish_keeps s k (pending s k)) h
 perform_spaced s (Cancel k) e page h = kept (cancel_keeps s k (pending s k)) h
 perform_spaced s (Pageout n) e page h = h
 
 budget_spaced : (s : State) (e : Event) (k : ℕ) → IsSpaced s → IsSpaced (accept s e).0 → IsSpaced (accept s (with_budget e k)).0
 budget_spaced s (Send d n) k h now = kept (send_keeps s d k (first_queued s d)) h
-budget_spaced s (Recv d n) k h now = kept (recv_keeps s d k) h
+budget_spaced s (Recv d n) k h now = kept (received_keeps s d k) h
 budget_spaced s e k h now = now
-
-choice : (b : Bool) (x y : Outcome) → IsSpaced x.0 → IsSpaced y.0 → IsSpaced (cond b x y).0
-choice true x y p q = p
-choice false x y p q = q
-
-state_choice : (b : Bool) (x y : State) → IsSpaced x → IsSpaced y → IsSpaced (cond b x y)
-state_choice true x y p q = p
-state_choice false x y p q = q
-
-marked_spaced : (s : State) (e : Event) (m : Mark) → IsSpaced s → IsSpaced (accept s e).0 → IsSpaced (marked s e m).0
-marked_spaced s e mark.NoFault h now = now
-marked_spaced s e mark.Store h now = choice (uses_store e) _ (accept s e) h now
-marked_spaced s e (mark.Device k) h now = choice (may_fail s e k) (failed s e k) (accept s e) (state_choice (k == 0) s (accept s (with_budget e k)).0 h (budget_spaced s e k h now)) now
-
-answer_spaced : (s : State) (e : Event) (m : Mark) (o : Option Refusal) → IsSpaced s → (o ≡ None → IsSpaced (perform s e).0) → IsSpaced (answer s e m o).0
-answer_spaced s e m None h now = marked_spaced s e m h (now refl)
-answer_spaced s e m (Some refusal) h now = h
 
 pub spacing_stays : Stays IsSpaced
 spacing_stays s e m whole o =
     let page = page_some s.config.page o.config.page in
-    answer_spaced s e m (refuse s e) (spaced s o) (λ n. perform_spaced s e n (omega (arith, page)) (spaced s o))
+    event_so IsSpaced s (spaced s o) e (λ none. perform_spaced s e none (omega (arith, page)) (spaced s o)) (λ none k. budget_spaced s e k (spaced s o) (perform_spaced s e none (omega (arith, page)) (spaced s o))) m
 
 pub regions_stay_apart : Stays RegionsAreApart
 regions_stay_apart s e m whole o = (spacing_stays s e m whole o).apart

@@ -1,5 +1,5 @@
 -- What each pending transfer names is there, and stays where regions and orphans change.
-use Rattle.std.proofs.Common.{◌≡◌, ℕ, ◌+◌, ◌≤◌, true, false, ◌&&◌, ◌==◌, inl, inr, ⊎_elim, List, filter, find, count_by, get_or, All, refl, sym, ap, subst, ◌∙◌, eqb-true, eq-eqb, ne_eqb, true≢false, le-leb, lt-ltb}
+use Rattle.std.proofs.Common.{◌≡◌, ℕ, ◌+◌, ◌≤◌, true, false, ◌&&◌, ◌==◌, inl, inr, ⊎_elim, List, filter, count_by, get_or, All, refl, sym, ap, subst, ◌∙◌, eqb-true, eq-eqb, ne_eqb, true≢false, le-leb, lt-ltb}
 use Rattle.std.specs.Prelude.{Option, Some, None, IsTrue, ⊤, nat_le, nat_lt}
 use Rattle.std.specs.Option.{option_map}
 use Rattle.std.specs.List.{list_any}
@@ -16,8 +16,8 @@ use Rattle.genie_model.specs.Regions.{regions_at, is_region, is_orphan, region_n
 use Rattle.genie_model.specs.Pending.{is_inward, is_just, names, names_weakly, covers}
 use Rattle.genie_model.specs.Space.{is_move, is_named, cut, tidy}
 use Rattle.genie_model.specs.Orderly.{LiesInRegion, LiesInOrphan, Lies, RangesLie, is_held, holds, MayName, moves_into, HeldForOne, NumbersDiffer, IsOrderly}
-use Rattle.genie_model.proofs.Having.{Has, all_has, has_at, any_has, has_any, none_from, find_has, find_map, find_filter, find_none, any_filter}
-use Rattle.genie_model.proofs.Finding.{all_of, has_region, differ, only_region, no_orphan}
+use Rattle.genie_model.proofs.Having.{Has, all_has, has_at, any_has, has_any, none_from, find_has, find_map, find_filter, any_filter}
+use Rattle.genie_model.proofs.Finding.{all_of, has_region, found_at, no_orphan_at}
 
 -- a move input names the region that its owner holds
 abbrev pub Holds : State → Transfer → ℕ → Type 0
@@ -93,9 +93,7 @@ held_region s (Some p) k h =
     (some.0, has_region s p some.0 some.1, eqb-true some.0.number k both.0, both.1)
 
 no_orphan_held : (s : State) → NumbersDiffer s → (o : Option ℕ) (k : ℕ) → IsTrue (holds s o k) → orphan_numbered s k ≡ None
-no_orphan_held s differs o k h =
-    let held = held_region s o k h in
-    find_none (is_orphan k) s.orphans (subst (λ n. list_any (is_orphan n) s.orphans ≡ false) held.2 (no_orphan s.orphans (all_of s.processes) (differ s differs) held.0 held.1))
+no_orphan_held s differs o k h = let held = held_region s o k h in no_orphan_at s differs held.0 held.1 k held.2
 
 fine_from : (s : State) → NumbersDiffer s → (u : Transfer) (class : Class) (direction : Direction) (named : Option ℕ) → u.direction ≡ direction → MayName s class direction u.owner named → Lies s u named → Fine s u class named
 fine_from s differs u Copy direction None e may lies = tt
@@ -131,8 +129,8 @@ accessible_free s transfers differs fine r there accessible =
     none_from (moves_into r.number) transfers (λ u has. false_from_ne_true (moves_into r.number u) (λ moves.
     let h = moved_named s u u.class u.region r.number (all_has (λ (u : Transfer). Fine s u u.class u.region) transfers fine u has) moves in
     let held = held_region s u.owner r.number h.0 in
-    let mine = only_region s.orphans (all_of s.processes) (differ s differs) r there in
-    let its = subst (λ n. find (is_region n) (all_of s.processes) ≡ Some held.0) held.2 (only_region s.orphans (all_of s.processes) (differ s differs) held.0 held.1) in
+    let mine = found_at s differs r there r.number refl in
+    let its = found_at s differs held.0 held.1 r.number held.2 in
     let same : held.0 ≡ r = cc in
     held_not_accessible r.state (subst (λ (x : Region). is_held x.state ≡ true) same held.3) accessible))
 

@@ -1,26 +1,28 @@
 -- What transfers name stays there in the events on address spaces.
-use Rattle.std.proofs.Common.{◌≡◌, ℕ, zero, suc, ◌+◌, ◌*◌, ◌<◌, ◌≤◌, Bool, true, false, ◌&&◌, ◌==◌, List, [], ◌∷◌, ◌++◌, length, map, All, refl, ap, ◌∙◌, leb-true, add-mul, arith}
+use Rattle.std.proofs.Common.{◌≡◌, ℕ, ◌+◌, ◌*◌, ◌<◌, ◌≤◌, Bool, true, false, ◌&&◌, ◌==◌, List, [], ◌∷◌, ◌++◌, length, map, All, refl, ap, leb-true, add-mul, arith, get_or}
 use Rattle.std.specs.Prelude.{Option, Some, None, nat_le, nat_lt}
 use Rattle.std.specs.List.{list_any}
 use Rattle.std.proofs.lemmas.Bool.{cond_both, and_parts, or_parts}
-use Rattle.std.proofs.lemmas.List.Elements.{All-head, All-tail}
-use Rattle.std.proofs.lemmas.List.Sums.{length-filter, count_by-le-length}
 use Rattle.genie_base.specs.Regions.{is_accessible, is_reached, contains_range}
 use Rattle.genie_base.specs.declared.region.RegionState.{RegionState}
 use Rattle.genie_base.specs.declared.region.RegionState.TheVariants.{Live, Out, In}
+use Rattle.genie_base.specs.declared.semantics.Class.{Class}
+use Rattle.genie_base.specs.declared.semantics.Class.TheVariants.{Move, WeakMove}
 use Rattle.genie_model.specs.State.{State, Region, Process, Transfer}
 use Rattle.genie_model.specs.Tables.{entry}
 use Rattle.genie_model.specs.Regions.{extent_of, regions_of, regions_at, is_region, has_number, fresh, reach_of, place_in, change_process, changed, changed_in, change_region, with_bytes, with_state, with_mode, put}
 use Rattle.genie_model.specs.Space.{add_region, remove, accessible, copy_of, add_copies, spawned, fork}
-use Rattle.genie_model.specs.Outputs.{moved_out_of, moved_out}
+use Rattle.genie_model.specs.Outputs.{moved_out_of, moved_out, give_up}
 use Rattle.genie_model.specs.Inputs.{moved_in_of, moved_in}
 use Rattle.genie_model.specs.Orderly.{moves_into, numbers, NumbersDiffer, IsRegion, AreApart, RegionsAreApart, IsOrderly}
-use Rattle.genie_model.proofs.Having.{Has, all_has, find_has}
-use Rattle.genie_model.proofs.Finding.{all_of, region_found, has_region, differ, only_region, no_orphan}
+use Rattle.genie_model.proofs.Having.{Has, all_has, find_has, at_entry}
+use Rattle.genie_model.proofs.Finding.{all_of, has_region, differ, no_orphan, found_at}
 use Rattle.genie_model.proofs.Standing.{Stand, stand_stays, stand_beside}
 use Rattle.genie_model.proofs.Changing.{InPlace, in_place_by, place_keeps_lies, place_keeps_held, place_keeps_others, put_in_place, remove_keeps_lies, remove_keeps_held}
-use Rattle.genie_model.proofs.Adding.{IsFree, unused_free, add_keeps_lies, add_keeps_held, numbers_few, added_numbers, spawned_all, spawn_keeps_lies, spawn_keeps_held}
+use Rattle.genie_model.proofs.Adding.{IsFree, unused_free, add_keeps_lies, add_keeps_held, numbers_few, spawned_all, spawn_keeps_lies, spawn_keeps_held}
 use Rattle.genie_model.proofs.Unused.{fresh_unused, few_numbers_beside}
+use Rattle.genie_model.proofs.Numbered.{added_length}
+use Rattle.genie_model.proofs.Forking.{accessible_few}
 
 -- what all transfers of the state name is there
 abbrev pub Stands : State → Type 0
@@ -45,7 +47,7 @@ module _ (s : State) (transfers : List Transfer) (h : Stand s transfers) where
 
   pub remove_stands : NumbersDiffer s → (r : Region) → Has r (all_of s.processes) → list_any (moves_into r.number) transfers ≡ false → Stand (remove s r) transfers
   remove_stands differs r there none = stand_beside s (remove s r) transfers r.number
-      (remove_keeps_lies s r (region_found s r.number ∙ only_region s.orphans (all_of s.processes) (differ s differs) r there) (no_orphan s.orphans (all_of s.processes) (differ s differs) r there))
+      (remove_keeps_lies s r (found_at s differs r there r.number refl) (no_orphan s.orphans (all_of s.processes) (differ s differs) r there))
       (remove_keeps_held s r) none h
 
   pub add_stands : (p : ℕ) (r : Region) → IsFree s r.number → Stand (add_region s p r) transfers
@@ -74,6 +76,12 @@ moved_in_place s k = in_place_state s (moved_in s k) k In (moved_in_of k) refl r
 pub live_place : (s : State) (k : ℕ) → InPlace s (change_region s k (with_state Live)) k (with_state Live)
 live_place s k = in_place_state s (change_region s k (with_state Live)) k Live (changed_in k (with_state Live)) refl refl (λ p. refl)
 
+-- a region that no move input names is given up
+pub give_up_stands : (s : State) → Stands s → NumbersDiffer s → (class : Class) (r : Region) → Has r (all_of s.processes) → list_any (moves_into r.number) s.transfers ≡ false → Stands (give_up s class (Some r))
+give_up_stands s h differs Move r there none = remove_stands s s.transfers h differs r there none
+give_up_stands s h differs WeakMove r there none = state_stands s s.transfers h (moved_out s r.number) r.number (with_state Out) (moved_out_place s r.number) none
+give_up_stands s h differs class r there none = h
+
 -- the numbers that are given to new regions are free
 pub fresh_free : (s : State) → length (numbers s) ≤ 576 → IsFree s (fresh s)
 fresh_free s few = unused_free s (fresh s) (fresh_unused s few)
@@ -85,16 +93,11 @@ copies_stand : (s : State) (q : ℕ) (regions : List Region) → length (numbers
 copies_stand s q [] few h = h
 copies_stand s q (r ∷ regions) few h =
     let t : State = add_region s q (copy_of s r) in
-    copies_stand t q regions (omega (arith, few, added_numbers s q (copy_of s r))) (add_stands s s.transfers h q (copy_of s r) (fresh_free s (omega arith)))
-
-few_at : (page : ℕ) (ps : List (Option Process)) → All (λ (p : Option Process). AreApart page (regions_of p)) ps → (p : ℕ) → length (regions_of (entry ps p)) ≤ 32
-few_at page [] h p = omega arith
-few_at page (x ∷ ps) h zero = (All-head (λ (p : Option Process). AreApart page (regions_of p)) x ps h).few
-few_at page (x ∷ ps) h (suc p) = few_at page ps (All-tail (λ (p : Option Process). AreApart page (regions_of p)) x ps h) p
+    copies_stand t q regions (omega (arith, few, added_length s q (copy_of s r))) (add_stands s s.transfers h q (copy_of s r) (fresh_free s (omega arith)))
 
 pub fork_stands : (s : State) (p q : ℕ) → IsOrderly s → (q < 16) × (entry s.processes q ≡ None) → Stands s → Stands (fork s p q).0
 fork_stands s p q o may h = copies_stand (spawned s q) q (accessible (regions_at s p))
-    (omega (arith, few_numbers_beside s q o may.0 may.1, numbers_few s, numbers_few (spawned s q), ap length (spawned_all s q may.1), few_at s.config.page s.processes o.regions p, length-filter (λ (r : Region). is_accessible r.state) (regions_at s p), count_by-le-length (λ (r : Region). is_accessible r.state) (regions_at s p)))
+    (omega (arith, few_numbers_beside s q o may.0 may.1, numbers_few s, numbers_few (spawned s q), ap length (spawned_all s q may.1), accessible_few s p o.regions))
     (spawn_stands s q may.1 h)
 
 -- an access reaches a region, and the range lies there
@@ -104,9 +107,7 @@ pub record Reaches (s : State) (r : Region) (a n : ℕ) : Type 0 where
   pub within : place_in s r a + n ≤ length r.bytes
 
 pub region_is : (page : ℕ) (ps : List (Option Process)) → All (λ (p : Option Process). AreApart page (regions_of p)) ps → (p : ℕ) (r : Region) → Has r (regions_of (entry ps p)) → IsRegion page r
-region_is page [] h p r has = absurd has
-region_is page (x ∷ ps) h zero r has = all_has (IsRegion page) (regions_of x) (All-head (λ (p : Option Process). AreApart page (regions_of p)) x ps h).each r has
-region_is page (x ∷ ps) h (suc p) r has = region_is page ps (All-tail (λ (p : Option Process). AreApart page (regions_of p)) x ps h) p r has
+region_is page ps h p r has = at_entry (λ (o : Option Process). Has r (regions_of o) → IsRegion page r) ps p (λ no. absurd no) (λ k d lt. all_has (IsRegion page) (regions_of (get_or ps k d)) (h k d lt).each r) has
 
 pub reached : (s : State) (p a n : ℕ) (r : Region) → RegionsAreApart s → reach_of s p a n ≡ Some r → Reaches s r a n
 reached s p a n r apart e =

@@ -18,19 +18,19 @@ use Rattle.genie_model.specs.Inputs.{address_or_zero}
 use Rattle.genie_model.specs.Integrity.{IsByteAt, buffer_of, start_in, Stores, CoveredBytesStay}
 use Rattle.genie_model.specs.Orderly.{moves_into, IsOrderly}
 use Rattle.genie_model.specs.Pending.{is_early_at, is_inward, is_numbered, names, names_weakly, covers, pending}
-use Rattle.genie_model.specs.Regions.{is_region, region_numbered, is_orphan, orphan_numbered, reach_of, write_reach_of, place_in, bytes_within, orphan_part, region_part, bytes_of, changed, change_region, with_state, put}
+use Rattle.genie_model.specs.Regions.{region_numbered, is_orphan, orphan_numbered, reach_of, write_reach_of, place_in, bytes_within, orphan_part, region_part, bytes_of, changed, change_region, with_state, put}
 use Rattle.genie_model.specs.Space.{is_move, cut, tidy, stored}
 use Rattle.genie_model.specs.State.{State, Region, Orphan, Transfer}
 use Rattle.genie_model.specs.Step.{perform, with_budget, step}
 use Rattle.genie_model.proofs.Changing.{InPlace, place_found}
 use Rattle.genie_model.proofs.Covered.{inputs_keep_integrity}
-use Rattle.genie_model.proofs.Finding.{all_of, region_found}
-use Rattle.genie_model.proofs.Finishing.{named_region, filled_place}
+use Rattle.genie_model.proofs.Finding.{number_has, named_region}
+use Rattle.genie_model.proofs.Finishing.{filled_place}
 use Rattle.genie_model.proofs.Having.{any_has, has_any, find_has}
 use Rattle.genie_model.proofs.Inside.{IsNew, put_gives}
 use Rattle.genie_model.proofs.Lasting.{names_covered, cut_has, others_leave}
 use Rattle.genie_model.proofs.Naming.{any_count, count_taken}
-use Rattle.genie_model.proofs.Queueing.{finish_for_like}
+use Rattle.genie_model.proofs.Aside.{finish_for_like}
 use Rattle.genie_model.proofs.Standing.{tidy_orphan}
 use Rattle.genie_model.proofs.Staying.{live_place}
 use Rattle.genie_model.proofs.Stepping.{event_so}
@@ -55,7 +55,7 @@ module _ (s : State) (j k x : ℕ) (f : Region → Region) (same : (r : Region) 
 
   change_part : InPlace s (change_region s j f) j f → bytes_of (change_region s j f) k x 1 ≡ bytes_of s k x 1
   change_part place = ap (λ o. region_part x 1 o (orphan_part x 1 (orphan_numbered s k))) (place_found s (change_region s j f) j f place k)
-      ∙ part_kept (region_numbered s k) _ (λ r e. eqb-true r.number k (find_has (is_region k) (all_of s.processes) r (sym (region_found s k) ∙ e)).1)
+      ∙ part_kept (region_numbered s k) _ (λ r e. eqb-true r.number k (number_has s k r e).1)
 
 -- a byte stays, or this event stored it
 abbrev Shows : State → Event → ℕ → ℕ → List ℕ → Type 0
@@ -142,7 +142,7 @@ module _ (s : State) (e : Event) (k x : ℕ) where
   step_shows : IsShown (perform s e).0 → ((b : ℕ) → with_budget e b ≡ e) → (m : Mark) → IsShown (step s e m).0
   step_shows shown same m =
       let tidied : IsShown (tidy (perform s e).0) = λ c. rw (tidy_part k x (perform s e).0 c) (shown c) in
-      event_so IsShown s (λ _. inl refl) e tidied (λ b. rw (same b) tidied) m
+      event_so IsShown s (λ _. inl refl) e (λ _. tidied) (λ _ b. rw (same b) tidied) m
 
 pub covered_bytes_stay : CoveredBytesStay
 covered_bytes_stay s (Write p a bytes) m k x whole o before after = step_shows s (Write p a bytes) k x (λ _. write_shows s p a bytes k x o (reach_of s p a (length bytes)) refl) (λ b. refl) m after

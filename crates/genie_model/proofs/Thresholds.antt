@@ -24,11 +24,11 @@ use Rattle.genie_model.specs.Tables.{entry}
 use Rattle.genie_model.specs.Regions.{reach_of, write_reach_of, regions_at, is_used, least_unused, fresh, put, change_region, with_state, address_of}
 use Rattle.genie_model.specs.Pending.{first_queued, first_posted, pending, is_early, is_early_at, add_transfer}
 use Rattle.genie_model.specs.Space.{Outcome, remove_found, region_from, protect_found, add_copies, add_region, copy_of, spawned, accessible, stored, bytes_reached}
-use Rattle.genie_model.specs.Outputs.{output_of, after_output}
+use Rattle.genie_model.specs.Outputs.{output_of, give_up}
 use Rattle.genie_model.specs.Inputs.{input, input_of, weak_buffer, number_or_fresh, reusable, pages_for, address_or_zero}
 use Rattle.genie_model.specs.Sending.{must_stage, send_next}
 use Rattle.genie_model.specs.Receiving.{set_device, is_busy, with_phase, change_transfer, deliver, complete, landing, landed, after_receiving, land_in, land, after_bytes, go_on, take_payload, datagram, match_header, begin_datagram, read_header, take_header, receive_record, receive}
-use Rattle.genie_model.specs.Ending.{after_landing, finish_copy, finish_share, finish_move, finish_weak_move, finish_input, finish_owned, finish_for, finish_found, after_cancel, cancel_found, without_transfer, region_of}
+use Rattle.genie_model.specs.Ending.{after_landing, finish_copy, finish_share, finish_move, finish_weak_move, finish_input, finish_owned, finish_for, finish_found, cancel_found, without_transfer, region_of}
 use Rattle.genie_model.specs.Laws.{with_thresholds, outcome_with_thresholds, ThresholdsStepAlike}
 use Rattle.genie_model.specs.Refusing.{refuse}
 use Rattle.genie_model.specs.Step.{answer, marked, accept, perform, failed, may_fail, uses_store, with_budget, tidied}
@@ -77,10 +77,14 @@ module _ (out back : ℕ) where
   read_alike s None a n = refl
   read_alike s (Some r) a n = refl
 
-  output_alike : (s : State) (p : ℕ) (class : Class) (to : Address) (a n : ℕ) (o : Option Region) → after_output (add_transfer (other s) (output_of (other s) p class to a n o)) class o ≡ other (after_output (add_transfer s (output_of s p class to a n o)) class o)
+  given_up_alike : (s : State) (class : Class) (o : Option Region) → give_up (other s) class o ≡ other (give_up s class o)
+  given_up_alike s class None = refl
+  given_up_alike s Copy (Some r) = refl
+  given_up_alike s class (Some r) = refl
+
+  output_alike : (s : State) (p : ℕ) (class : Class) (to : Address) (a n : ℕ) (o : Option Region) → give_up (add_transfer (other s) (output_of (other s) p class to a n o)) class o ≡ other (give_up (add_transfer s (output_of s p class to a n o)) class o)
   output_alike s p class to a n None = refl
-  output_alike s p Copy to a n (Some r) = refl
-  output_alike s p class to a n (Some r) = refl
+  output_alike s p class to a n (Some r) = given_up_alike (add_transfer s (output_of s p class to a n (Some r))) class (Some r)
 
   weak_alike : (s : State) (p : ℕ) (to : Address) (n : ℕ) (o : Option ℕ) → add_transfer (weak_buffer (other s) p n o) (input_of (other s) p WeakMove to n None (number_or_fresh (other s) o) 0) ≡ other (add_transfer (weak_buffer s p n o) (input_of s p WeakMove to n None (number_or_fresh s o) 0))
   weak_alike s p to n None = rw (fresh_alike s) refl
@@ -188,17 +192,12 @@ module _ (out back : ℕ) where
   finish_alike s k None = refl
   finish_alike s k (Some t) = finish_for_alike (without_transfer s k) t t.owner
 
-  after_cancel_alike : (s : State) (class : Class) (o : Option Region) → Alike (after_cancel (other s) class o, reply.Okay) (after_cancel s class o, reply.Okay)
-  after_cancel_alike s class None = refl
-  after_cancel_alike s Copy (Some r) = refl
-  after_cancel_alike s class (Some r) = refl
+  abbrev okay : State → Outcome
+  okay s = (s, reply.Okay)
 
   cancel_alike : (s : State) (k : ℕ) (o : Option Transfer) → Alike (cancel_found (other s) k o) (cancel_found s k o)
   cancel_alike s k None = refl
-  cancel_alike s k (Some t) = after_cancel_alike (without_transfer s k) t.class (region_of (without_transfer s k) t)
-
-  abbrev okay : State → Outcome
-  okay s = (s, reply.Okay)
+  cancel_alike s k (Some t) = ap okay (given_up_alike (without_transfer s k) t.class (region_of (without_transfer s k) t))
 
   perform_alike : (s : State) (e : Event) → Alike (perform (other s) e) (perform s e)
   perform_alike s (Fork p q) = ap okay (copies_alike (spawned s q) q (accessible (regions_at s p)))

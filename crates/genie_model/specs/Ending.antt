@@ -11,8 +11,8 @@ use Rattle.genie_model.specs.State.{State, Region, Transfer}
 use Rattle.genie_model.specs.Tables.{without}
 use Rattle.genie_model.specs.Regions.{write_reach_of, address_of, region_numbered, change_region, with_state, put}
 use Rattle.genie_model.specs.Pending.{is_early_at, is_numbered, pending}
-use Rattle.genie_model.specs.Space.{Outcome, remove, stored}
-use Rattle.genie_model.specs.Outputs.{moved_out}
+use Rattle.genie_model.specs.Space.{Outcome, stored}
+use Rattle.genie_model.specs.Outputs.{give_up}
 use Rattle.genie_model.specs.Inputs.{address_or_zero}
 
 abbrev pub without_transfer : State → ℕ → State
@@ -69,17 +69,9 @@ finish_found s k (Some t) = finish_for (without_transfer s k) t t.owner
 abbrev pub finish : State → ℕ → Outcome
 finish s k = finish_found s k (pending s k)
 
--- what becomes of the buffer: a held region goes, and one that was moved in is moved out again
-abbrev pub after_cancel : State → Class → Option Region → State
-after_cancel s class None = s
-after_cancel s Copy (Some r) = s
-after_cancel s Share (Some r) = s
-after_cancel s Move (Some r) = remove s r
-after_cancel s WeakMove (Some r) = moved_out s r.number
-
 abbrev pub cancel_found : State → ℕ → Option Transfer → Outcome
 cancel_found s k None = (s, reply.Okay)
-cancel_found s k (Some t) = (after_cancel (without_transfer s k) t.class (region_of s t), reply.Okay)
+cancel_found s k (Some t) = (give_up (without_transfer s k) t.class (region_of s t), reply.Okay)
 
 abbrev pub cancel : State → ℕ → Outcome
 cancel s k = cancel_found s k (pending s k)

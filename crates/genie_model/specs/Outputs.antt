@@ -52,13 +52,13 @@ moved_out_of k p = if has_number k (Some p) then record { queue = p.queue ++ k �
 abbrev pub moved_out : State → ℕ → State
 moved_out s k = record s { processes = map (change_process (moved_out_of k)) s.processes }
 
--- what becomes of the region: a move takes it away, a weak move leaves it to later inputs
-abbrev pub after_output : State → Class → Option Region → State
-after_output s class None = s
-after_output s Copy (Some r) = s
-after_output s Share (Some r) = s
-after_output s Move (Some r) = remove s r
-after_output s WeakMove (Some r) = moved_out s r.number
+-- what becomes of a buffer that is given up: a move's goes, and a weak move's is moved out
+abbrev pub give_up : State → Class → Option Region → State
+give_up s class None = s
+give_up s Copy (Some r) = s
+give_up s Share (Some r) = s
+give_up s Move (Some r) = remove s r
+give_up s WeakMove (Some r) = moved_out s r.number
 
 abbrev pub output : State → ℕ → Class → Address → ℕ → ℕ → Outcome
-output s p class to a n = (after_output (add_transfer s (output_of s p class to a n (reach_of s p a n))) class (reach_of s p a n), reply.Id s.next)
+output s p class to a n = (give_up (add_transfer s (output_of s p class to a n (reach_of s p a n))) class (reach_of s p a n), reply.Id s.next)

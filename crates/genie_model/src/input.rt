@@ -5,9 +5,10 @@ ghost use Rattle.std.specs.Option.{option_copied};
 ghost use Rattle.genie_base.specs.declared.semantics.Class.TheVariants.{Copy, Share, Move, WeakMove};
 ghost use Rattle.genie_model.specs.Regions.{fresh, regions_at};
 ghost use Rattle.genie_model.specs.Pending.{names, pending, add_transfer};
+ghost use Rattle.genie_model.specs.Outputs.{give_up};
 ghost use Rattle.genie_model.specs.Inputs.{pages_for, has_pages, reusable, moved_in, weak_buffer, input_of, input, address_or_zero};
 ghost use Rattle.genie_model.specs.Refusing.{must_make};
-ghost use Rattle.genie_model.specs.Ending.{after_cancel, cancel, region_of};
+ghost use Rattle.genie_model.specs.Ending.{cancel, region_of};
 ghost use Rattle.genie_model.specs.Targets.{address_of};
 
 use crate::machine::Machine;
@@ -244,7 +245,7 @@ impl Machine {
 
     // The held region of an input that is cancelled goes.
     fn cancel_move(&mut self, transfer: &Transfer) -> Result<(), NoMemory>
-        ensures { OnOk result (self.new ≡ after_cancel self.old Move (region_of self.old transfer.now)) }
+        ensures { OnOk result (self.new ≡ give_up self.old Move (region_of self.old transfer.now)) }
     {
         let orphan = match self.region_of(transfer) {
             Some(region) => Orphan::of(self.alloc, region),
@@ -258,7 +259,7 @@ impl Machine {
 
     // The region of a weak move input that is cancelled is moved out again.
     fn cancel_weak_move(&mut self, transfer: &Transfer) -> Result<(), NoMemory>
-        ensures { OnOk result (self.new ≡ after_cancel self.old WeakMove (region_of self.old transfer.now)) }
+        ensures { OnOk result (self.new ≡ give_up self.old WeakMove (region_of self.old transfer.now)) }
     {
         let number = match self.region_of(transfer) {
             Some(region) => region.number(),
@@ -268,7 +269,7 @@ impl Machine {
     }
 
     fn after_cancel(&mut self, transfer: &Transfer) -> Result<(), NoMemory>
-        ensures { OnOk result (self.new ≡ after_cancel self.old transfer.now.class (region_of self.old transfer.now)) }
+        ensures { OnOk result (self.new ≡ give_up self.old transfer.now.class (region_of self.old transfer.now)) }
     {
         match transfer.class() {
             Class::Copy | Class::Share => Ok(()),
