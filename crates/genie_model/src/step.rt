@@ -49,23 +49,23 @@ impl Machine {
                 self.spawn(*pid);
                 Ok(Reply::Okay)
             }
-            Event::Map { pid, page, pages } => match self.map(*pid, *page, *pages) {
-                Ok(()) => Ok(Reply::Okay),
-                Err(error) => Err(error),
-            },
-            Event::Fork { parent, child } => match self.fork(*parent, *child) {
-                Ok(()) => Ok(Reply::Okay),
-                Err(error) => Err(error),
-            },
-            Event::Exit { pid } => match self.exit(*pid) {
-                Ok(()) => Ok(Reply::Okay),
-                Err(error) => Err(error),
-            },
+            Event::Map { pid, page, pages } => {
+                self.map(*pid, *page, *pages)?;
+                Ok(Reply::Okay)
+            }
+            Event::Fork { parent, child } => {
+                self.fork(*parent, *child)?;
+                Ok(Reply::Okay)
+            }
+            Event::Exit { pid } => {
+                self.exit(*pid)?;
+                Ok(Reply::Okay)
+            }
             Event::Alloc { pid, pages } => self.alloc(*pid, *pages),
-            Event::Unmap { pid, page } => match self.unmap(*pid, *page) {
-                Ok(()) => Ok(Reply::Okay),
-                Err(error) => Err(error),
-            },
+            Event::Unmap { pid, page } => {
+                self.unmap(*pid, *page)?;
+                Ok(Reply::Okay)
+            }
             Event::Protect {
                 pid,
                 page,
@@ -94,10 +94,8 @@ impl Machine {
                     flow: *flow,
                 };
                 let id = self.next as u32;
-                match self.output(*pid, sem.class(), target, *addr, *len) {
-                    Ok(()) => Ok(Reply::Id { id }),
-                    Err(error) => Err(error),
-                }
+                self.output(*pid, sem.class(), target, *addr, *len)?;
+                Ok(Reply::Id { id })
             }
             Event::Input {
                 pid,
@@ -114,18 +112,16 @@ impl Machine {
                     flow: *flow,
                 };
                 let id = self.next as u32;
-                match self.input(*pid, sem.class(), target, *addr, *len) {
-                    Ok(()) => Ok(Reply::Id { id }),
-                    Err(error) => Err(error),
-                }
+                self.input(*pid, sem.class(), target, *addr, *len)?;
+                Ok(Reply::Id { id })
             }
             Event::Send { dev, len } => self.send(*dev, *len),
             Event::Recv { dev, len } => self.recv(*dev, *len),
             Event::Finish { id } => Ok(self.finish(*id)),
-            Event::Cancel { id } => match self.cancel(*id) {
-                Ok(()) => Ok(Reply::Okay),
-                Err(error) => Err(error),
-            },
+            Event::Cancel { id } => {
+                self.cancel(*id)?;
+                Ok(Reply::Okay)
+            }
             Event::Pageout { .. } => Ok(Reply::Okay),
         }
     }
@@ -138,13 +134,9 @@ impl Machine {
         requires numbered { HasNumber self.old }
         ensures { IfOk result (λ reply. accept self.old event.now ≡ (self.new, reply)) }
     {
-        match self.perform(event) {
-            Ok(reply) => {
-                self.tidy();
-                Ok(reply)
-            }
-            Err(error) => Err(error),
-        }
+        let reply = self.perform(event)?;
+        self.tidy();
+        Ok(reply)
     }
 
     // Whether the host of a device may fail after `k` bytes of a step.
@@ -162,26 +154,18 @@ impl Machine {
     fn send_less(&mut self, dev: u32, k: u32) -> Result<(), NoMemory>
         ensures { OnOk result (self.new ≡ (accept self.old (event.Send dev k)).0) }
     {
-        match self.send(dev, k) {
-            Ok(_) => {
-                self.tidy();
-                Ok(())
-            }
-            Err(error) => Err(error),
-        }
+        self.send(dev, k)?;
+        self.tidy();
+        Ok(())
     }
 
     // A receive step with a smaller budget.
     fn recv_less(&mut self, dev: u32, k: u32) -> Result<(), NoMemory>
         ensures { OnOk result (self.new ≡ (accept self.old (event.Recv dev k)).0) }
     {
-        match self.recv(dev, k) {
-            Ok(_) => {
-                self.tidy();
-                Ok(())
-            }
-            Err(error) => Err(error),
-        }
+        self.recv(dev, k)?;
+        self.tidy();
+        Ok(())
     }
 
     fn step_less(&mut self, event: &Event, k: u32) -> Result<(), NoMemory>
@@ -203,10 +187,8 @@ impl Machine {
         if k == 0 {
             return Ok(Reply::Fault { n: k });
         }
-        match self.step_less(event, k) {
-            Ok(()) => Ok(Reply::Fault { n: k }),
-            Err(error) => Err(error),
-        }
+        self.step_less(event, k)?;
+        Ok(Reply::Fault { n: k })
     }
 
     // An accepted event under a mark of a device's host. One that doesn't fit counts as none.
@@ -215,10 +197,10 @@ impl Machine {
         requires numbered { HasNumber self.old }
         ensures { IfOk result (λ reply. marked self.old event.now (mark.Device k) ≡ (self.new, reply)) }
     {
-        match self.may_fail(event, k) {
-            Ok(true) => self.fail(event, k),
-            Ok(false) => self.accept(event),
-            Err(error) => Err(error),
+        if self.may_fail(event, k)? {
+            self.fail(event, k)
+        } else {
+            self.accept(event)
         }
     }
 
