@@ -40,10 +40,7 @@ fn no_processes(alloc: Global) -> Result<Vec<Option<Process>>, NoMemory>
 {
     let mut processes = Vec::new(alloc);
     for _ in 0..PROCESSES {
-        match processes.push(None) {
-            Ok(()) => {}
-            Err(_) => return Err(NoMemory),
-        }
+        processes.push(None)?;
     }
     Ok(processes)
 }
@@ -67,10 +64,7 @@ fn boot_devices(
 {
     let mut devices = Vec::new(alloc);
     for config in configs {
-        match devices.push(boot_device(alloc, config)) {
-            Ok(()) => {}
-            Err(_) => return Err(NoMemory),
-        }
+        devices.push(boot_device(alloc, config))?;
     }
     Ok(devices)
 }
@@ -85,14 +79,8 @@ impl Flat {
             Some(page) => page,
             None => unreachable!(),
         };
-        let processes = match no_processes(alloc) {
-            Ok(processes) => processes,
-            Err(error) => return Err(error),
-        };
-        let devices = match boot_devices(alloc, &config.devices) {
-            Ok(devices) => devices,
-            Err(error) => return Err(error),
-        };
+        let processes = no_processes(alloc)?;
+        let devices = boot_devices(alloc, &config.devices)?;
         let machine = Machine {
             alloc,
             config: *config,

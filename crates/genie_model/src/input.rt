@@ -145,16 +145,11 @@ impl Machine {
         ensures { OnOk result (self.new ≡ (input self.old pid Move (address_of target) addr len).0) }
     {
         let pages = self.pages_for(len);
-        let region = match self.zeros_at_place(RegionState::Held, pid, pages) {
-            Ok(region) => region,
-            Err(error) => return Err(error),
-        };
+        let region = self.zeros_at_place(RegionState::Held, pid, pages)?;
         let call = self.call(pid, Class::Move, target, len);
         let transfer = Transfer::input(self.alloc, call, None, Some(region.number()), 0);
-        match self.add_region(pid, region) {
-            Ok(()) => self.add_transfer(transfer),
-            Err(error) => Err(error),
-        }
+        self.add_region(pid, region)?;
+        self.add_transfer(transfer)
     }
 
     // A weak move input that takes a region of the weak queue.
@@ -184,16 +179,11 @@ impl Machine {
         ensures { OnOk result (self.new ≡ add_transfer (weak_buffer self.old pid len None) (input_of self.old pid WeakMove (address_of target) len None (Some (fresh self.old)) 0)) }
     {
         let pages = self.pages_for(len);
-        let region = match self.zeros_at_place(RegionState::In, pid, pages) {
-            Ok(region) => region,
-            Err(error) => return Err(error),
-        };
+        let region = self.zeros_at_place(RegionState::In, pid, pages)?;
         let call = self.call(pid, Class::WeakMove, target, len);
         let transfer = Transfer::input(self.alloc, call, None, Some(region.number()), 0);
-        match self.add_region(pid, region) {
-            Ok(()) => self.add_transfer(transfer),
-            Err(error) => Err(error),
-        }
+        self.add_region(pid, region)?;
+        self.add_transfer(transfer)
     }
 
     // A weak move input.
@@ -247,13 +237,10 @@ impl Machine {
         ensures { OnOk result (self.new ≡ after_cancel self.old Move (region_of self.old transfer.now)) }
     {
         let orphan = match self.region_of(transfer) {
-            Some(region) => Orphan::of(self.alloc, region),
+            Some(region) => Orphan::of(self.alloc, region)?,
             None => return Ok(()),
         };
-        match orphan {
-            Ok(orphan) => self.remove(orphan),
-            Err(error) => Err(error),
-        }
+        self.remove(orphan)
     }
 
     // The region of a weak move input that is cancelled is moved out again.

@@ -111,10 +111,7 @@ impl Machine {
         ensures { IfOk result (λ bytes. bytes.items ≡ bytes_of self.now number at n) }
     {
         match self.region_numbered(number) {
-            Some(region) => match region.part(at, n).to_vec(self.alloc) {
-                Ok(bytes) => Ok(bytes),
-                Err(_) => Err(NoMemory),
-            },
+            Some(region) => Ok(region.part(at, n).to_vec(self.alloc)?),
             None => self.orphan_part(number, at, n),
         }
     }

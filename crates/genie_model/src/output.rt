@@ -41,13 +41,9 @@ impl Machine {
         requires numbered { self.old.next < 2 ^ 32 }
         ensures { OnOk result (self.new ≡ add_transfer self.old transfer) }
     {
-        match self.transfers.push(transfer) {
-            Ok(()) => {
-                self.next += 1;
-                Ok(())
-            }
-            Err(_) => Err(NoMemory),
-        }
+        self.transfers.push(transfer)?;
+        self.next += 1;
+        Ok(())
     }
 
     // An output, with its bytes of now where it is strong, and else with its region.
@@ -74,10 +70,8 @@ impl Machine {
             let region = self.reached(pid, addr, len);
             return Ok(Transfer::output(call, region, place, Vec::new(self.alloc)));
         }
-        match self.bytes(pid, addr, len).to_vec(self.alloc) {
-            Ok(payload) => Ok(Transfer::output(call, None, place, payload)),
-            Err(_) => Err(NoMemory),
-        }
+        let payload = self.bytes(pid, addr, len).to_vec(self.alloc)?;
+        Ok(Transfer::output(call, None, place, payload))
     }
 
     // An output whose region stays as it is.
@@ -93,10 +87,8 @@ impl Machine {
         requires numbered { self.old.next < 2 ^ 32 }
         ensures { OnOk result (self.new ≡ add_transfer self.old (output_of self.old pid class (address_of target) addr len (reach_of self.old pid addr len))) }
     {
-        match self.output_of(pid, class, target, addr, len) {
-            Ok(transfer) => self.add_transfer(transfer),
-            Err(error) => Err(error),
-        }
+        let transfer = self.output_of(pid, class, target, addr, len)?;
+        self.add_transfer(transfer)
     }
 
     // A region is Out, at the end of its process's weak queue.
@@ -124,14 +116,9 @@ impl Machine {
         requires reached { IsSome (reach_of self.old pid addr len) }
         ensures { OnOk result (self.new ≡ (output self.old pid Move (address_of target) addr len).0) }
     {
-        let orphan = match self.reached_orphan(pid, addr, len) {
-            Ok(orphan) => orphan,
-            Err(error) => return Err(error),
-        };
-        match self.add_output(pid, Class::Move, target, addr, len) {
-            Ok(()) => self.remove(orphan),
-            Err(error) => Err(error),
-        }
+        let orphan = self.reached_orphan(pid, addr, len)?;
+        self.add_output(pid, Class::Move, target, addr, len)?;
+        self.remove(orphan)
     }
 
     // An output that leaves its region to later inputs.
@@ -151,10 +138,8 @@ impl Machine {
             Some(region) => region.number(),
             None => unreachable!(),
         };
-        match self.add_output(pid, Class::WeakMove, target, addr, len) {
-            Ok(()) => self.move_out(number),
-            Err(error) => Err(error),
-        }
+        self.add_output(pid, Class::WeakMove, target, addr, len)?;
+        self.move_out(number)
     }
 
     // An output.

@@ -75,10 +75,7 @@ impl Region {
     pub(crate) fn copy(&self, alloc: Global, number: u32) -> Result<Region, NoMemory>
         ensures { IfOk result (λ r. r ≡ record self.now { number = number; state = Live }) }
     {
-        let bytes = match self.bytes.as_slice().to_vec(alloc) {
-            Ok(bytes) => bytes,
-            Err(_) => return Err(NoMemory),
-        };
+        let bytes = self.bytes.as_slice().to_vec(alloc)?;
         Ok(Region {
             number,
             start: self.start,

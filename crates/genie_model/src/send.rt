@@ -36,10 +36,7 @@ impl Machine {
         ensures { IfOk result (λ bytes. bytes.items ≡ payload_of self.now transfer.now) }
     {
         if transfer.is_strong() || self.is_outboard_at(transfer.device()) {
-            match transfer.payload().to_vec(self.alloc) {
-                Ok(bytes) => Ok(bytes),
-                Err(_) => Err(NoMemory),
-            }
+            Ok(transfer.payload().to_vec(self.alloc)?)
         } else {
             self.named_bytes(
                 transfer.region(),
@@ -87,19 +84,10 @@ impl Machine {
             None => return Ok(Vec::new(self.alloc)),
             Some(transfer) => transfer,
         };
-        let payload = match self.payload_of(transfer) {
-            Ok(payload) => payload,
-            Err(error) => return Err(error),
-        };
-        let record = match transfer.record(self.alloc, payload.as_slice()) {
-            Ok(record) => record,
-            Err(error) => return Err(error),
-        };
+        let payload = self.payload_of(transfer)?;
+        let record = transfer.record(self.alloc, payload.as_slice())?;
         let bytes = part(record.as_slice(), transfer.moved() as usize, k as usize);
-        match bytes.to_vec(self.alloc) {
-            Ok(bytes) => Ok(bytes),
-            Err(_) => Err(NoMemory),
-        }
+        Ok(bytes.to_vec(self.alloc)?)
     }
 
     // The next `k` bytes that the first output that waits for a device stages.
@@ -123,18 +111,9 @@ impl Machine {
         ensures { IfOk result (λ reply. send self.old dev n ≡ (self.new, reply)) }
     {
         let k = self.stage_count(dev, n);
-        match self.staged_now(dev, k) {
-            Err(error) => Err(error),
-            Ok(bytes) => match stage_first(
-                self.transfers.as_mut_slice(),
-                dev,
-                k,
-                bytes.as_slice(),
-            ) {
-                Ok(()) => Ok(Reply::Staged { n: k }),
-                Err(error) => Err(error),
-            },
-        }
+        let bytes = self.staged_now(dev, k)?;
+        stage_first(self.transfers.as_mut_slice(), dev, k, bytes.as_slice())?;
+        Ok(Reply::Staged { n: k })
     }
 
     // Sends the next bytes of the first output that waits for a device.
@@ -143,17 +122,10 @@ impl Machine {
         ensures { IfOk result (λ reply. send self.old dev n ≡ (self.new, reply)) }
     {
         let k = self.send_count(dev, n);
-        let bytes = match self.next_part(dev, k) {
-            Ok(bytes) => bytes,
-            Err(error) => return Err(error),
-        };
-        match table::send_on(&mut self.devices, dev, bytes.as_slice()) {
-            Err(error) => Err(error),
-            Ok(()) => {
-                send_first(self.transfers.as_mut_slice(), dev, u64::from(k));
-                Ok(Reply::Sent { n: k })
-            }
-        }
+        let bytes = self.next_part(dev, k)?;
+        table::send_on(&mut self.devices, dev, bytes.as_slice())?;
+        send_first(self.transfers.as_mut_slice(), dev, u64::from(k));
+        Ok(Reply::Sent { n: k })
     }
 
     // A send step of a device with a budget.

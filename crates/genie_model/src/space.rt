@@ -79,10 +79,8 @@ impl Machine {
             start,
             pages,
         };
-        match self.zeros(purpose) {
-            Ok(region) => self.add_region(pid, region),
-            Err(error) => Err(error),
-        }
+        let region = self.zeros(purpose)?;
+        self.add_region(pid, region)
     }
 
     // The lowest start in the system area at which so many pages of a process are free.
@@ -126,15 +124,10 @@ impl Machine {
         requires few { length (regions_at self.old pid) < 32 }
         ensures { IfOk result (λ reply. alloc self.old pid pages ≡ (self.new, reply)) }
     {
-        let region = match self.zeros_at_place(RegionState::Live, pid, pages) {
-            Ok(region) => region,
-            Err(error) => return Err(error),
-        };
+        let region = self.zeros_at_place(RegionState::Live, pid, pages)?;
         let addr = self.address_of(&region);
-        match self.add_region(pid, region) {
-            Ok(()) => Ok(Reply::At { addr }),
-            Err(error) => Err(error),
-        }
+        self.add_region(pid, region)?;
+        Ok(Reply::At { addr })
     }
 
     // A region, of which this is left, goes.
@@ -150,13 +143,10 @@ impl Machine {
         ensures { OnOk result (self.new ≡ (unmap self.old pid page).0) }
     {
         let orphan = match self.region_from(pid, page) {
-            Some(region) => Orphan::of(self.alloc, region),
+            Some(region) => Orphan::of(self.alloc, region)?,
             None => return Ok(()),
         };
-        match orphan {
-            Ok(orphan) => self.remove(orphan),
-            Err(error) => Err(error),
-        }
+        self.remove(orphan)
     }
 
     // Whether the region that starts at a page may be written from now on.
@@ -187,10 +177,8 @@ impl Machine {
         ensures { OnOk result (self.new ≡ add_region self.old pid (copy_of self.old region.now)) }
     {
         let number = self.fresh();
-        match region.copy(self.alloc, number) {
-            Ok(copy) => self.add_region(pid, copy),
-            Err(error) => Err(error),
-        }
+        let copy = region.copy(self.alloc, number)?;
+        self.add_region(pid, copy)
     }
 
     // Gives a process copies of regions.
@@ -200,10 +188,7 @@ impl Machine {
         ensures { OnOk result (self.new ≡ add_copies self.old pid regions.now) }
     {
         for region in regions {
-            match self.add_copy(pid, region) {
-                Ok(()) => {}
-                Err(error) => return Err(error),
-            }
+            self.add_copy(pid, region)?;
         }
         Ok(())
     }
@@ -212,10 +197,7 @@ impl Machine {
     pub(crate) fn fork(&mut self, parent: u32, child: u32) -> Result<(), NoMemory>
         ensures { OnOk result (self.new ≡ (fork self.old parent child).0) }
     {
-        let copies = match self.copies(parent) {
-            Ok(copies) => copies,
-            Err(error) => return Err(error),
-        };
+        let copies = self.copies(parent)?;
         self.spawn(child);
         self.add_copies(child, copies.as_slice())
     }
@@ -234,13 +216,9 @@ impl Machine {
     pub(crate) fn exit(&mut self, pid: u32) -> Result<(), NoMemory>
         ensures { OnOk result (self.new ≡ (exit self.old pid).0) }
     {
-        match self.abandon(pid) {
-            Ok(()) => {
-                disown_all(&mut self.transfers, pid);
-                Ok(())
-            }
-            Err(error) => Err(error),
-        }
+        self.abandon(pid)?;
+        disown_all(&mut self.transfers, pid);
+        Ok(())
     }
 
     // The bytes that an access reaches.

@@ -540,10 +540,8 @@ impl Transfer {
             return Ok(());
         }
         let fitting = front(bytes, self.len.saturating_sub(at) as usize);
-        match self.payload.extend_from_slice(fitting) {
-            Ok(()) => Ok(()),
-            Err(_) => Err(NoMemory),
-        }
+        self.payload.extend_from_slice(fitting)?;
+        Ok(())
     }
 
     fn gather(&mut self, truncated: bool, len: u32, bytes: &[u8]) -> Result<(), NoMemory>
@@ -554,10 +552,8 @@ impl Transfer {
         self.stored = fitting.len() as u32;
         self.note = note_of(truncated, len, self.len);
         self.payload.clear();
-        match self.payload.extend_from_slice(fitting) {
-            Ok(()) => Ok(()),
-            Err(_) => Err(NoMemory),
-        }
+        self.payload.extend_from_slice(fitting)?;
+        Ok(())
     }
 
     // Takes a turn.

@@ -11,14 +11,14 @@ use Rattle.genie_model.specs.Targets.{address_of}
 use Rattle.genie_model.proofs.Results.{on_ok}
 use Rattle.genie_model.proofs.machine.Machine.input_fresh.Goals as goal
 
-pub returns-in-Ok-add_region : goal.returns-in-Ok-add_region
-returns-in-Ok-add_region c =
+pub returns : goal.returns
+returns c =
     let s : State = c.args.self.now in
     let p = c.args.pid in
     let made : Region = zeros_at_place s In p (pages_for s c.args.len) in
     let call : Transfer = input_of s p WeakMove (address_of c.args.target) c.args.len None (Some (fresh s)) 0 in
-    let region : c.in-Ok.region ≡ made = c.in-Ok.ensures ∙ ap (zeros_at_place s In p) c.pages_for-pages.ensures.pages in
+    let region : c.in_ok-region.region ≡ made = c.in_ok-region.ensures ∙ ap (zeros_at_place s In p) c.pages_for-pages.ensures.pages in
     let number = c.number.ensures ∙ ap (λ (r : Region). r.number) region in
     let transfer : c.input-transfer.result ≡ call = rw (c.input-transfer.ensures, c.call-call.ensures, number) refl in
-    let placed = c.in-Ok-add_region.ensures ∙ ap (add_region s p) region in
+    let placed = c.in_ok-add_region.ensures ∙ ap (add_region s p) region in
     on_ok c.add_transfer.result (λ e. e ∙ ap (λ (t : State). add_transfer t c.input-transfer.result) placed ∙ ap (add_transfer (add_region s p made)) transfer) c.add_transfer.ensures
