@@ -84,6 +84,14 @@ pub(crate) struct Target {
     pub(crate) flow: Option<u32>,
 }
 
+impl Target {
+    pub(crate) fn new(device: u32, port: u16, flow: Option<u32>) -> Target
+        ensures { result ≡ record { device = device; port = port; flow = flow } }
+    {
+        Target { device, port, flow }
+    }
+}
+
 /// A call that is accepted: its number, whose it is, its class, where its bytes go to or come from, and how many.
 #[derive(Clone, Copy)]
 pub(crate) struct Call {
