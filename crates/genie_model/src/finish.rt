@@ -29,10 +29,7 @@ impl Machine {
     pub(crate) fn region_of(&self, transfer: &Transfer) -> Option<&Region>
         ensures { option_copied result ≡ region_of self.now transfer.now }
     {
-        match transfer.region() {
-            Some(number) => self.region_numbered(number),
-            None => None,
-        }
+        self.region_numbered(transfer.region()?)
     }
 
     // A copy input's bytes are stored where a write of its range reaches.
@@ -61,7 +58,7 @@ impl Machine {
     }
 
     // A weak input's bytes land now, where they haven't landed.
-    fn land(&mut self, transfer: &Transfer, region: u32)
+    fn land_late(&mut self, transfer: &Transfer, region: u32)
         ensures { (r : Placed) → r.number ≡ region → self.new ≡ after_landing self.old transfer.now r }
     {
         if !self.is_early_at(transfer.device()) {
@@ -77,7 +74,7 @@ impl Machine {
             Some(region) => region.number(),
             None => return Reply::Lost,
         };
-        self.land(transfer, number);
+        self.land_late(transfer, number);
         transfer.arrived(None)
     }
 
@@ -89,7 +86,7 @@ impl Machine {
             Some(region) => (region.number(), self.address_of(region)),
             None => return Reply::Lost,
         };
-        self.land(transfer, number);
+        self.land_late(transfer, number);
         self.change_region(number, &Change::State(RegionState::Live));
         transfer.arrived(Some(addr))
     }

@@ -5,7 +5,7 @@ ghost use Rattle.std.specs.Option.{option_copied};
 ghost use Rattle.genie_base.specs.declared.semantics.Class.TheVariants.{Copy, Share, Move, WeakMove};
 ghost use Rattle.genie_model.specs.Regions.{fresh, regions_at};
 ghost use Rattle.genie_model.specs.Pending.{names, pending, add_transfer};
-ghost use Rattle.genie_model.specs.Inputs.{pages_for, has_pages, reusable, moved_in, weak_buffer, input_of, input, address_or_zero};
+ghost use Rattle.genie_model.specs.Inputs.{pages_for, has_pages, reusable, moved_in, weak_buffer, input_of, input};
 ghost use Rattle.genie_model.specs.Refusing.{must_make};
 ghost use Rattle.genie_model.specs.Ending.{after_cancel, cancel, region_of};
 ghost use Rattle.genie_model.specs.Targets.{address_of};
@@ -14,18 +14,8 @@ use crate::machine::Machine;
 use crate::orphan::Orphan;
 use crate::region::Region;
 use crate::table;
-use crate::transfer::{Call, Target, Transfer, any_names};
+use crate::transfer::{Call, Target, Transfer, address_or_zero, any_names};
 use genie_base::{Class, NoMemory, RegionState, Reply};
-
-// The address, or 0.
-pub(crate) fn address_or_zero(addr: Option<u32>) -> u32
-    ensures { result ≡ address_or_zero addr }
-{
-    match addr {
-        Some(addr) => addr,
-        None => 0,
-    }
-}
 
 fn any_with_pages(regions: &[Region], number: u32, pages: u32) -> bool
     ensures { result ≡ list_any (has_pages number pages) regions.now }
@@ -68,15 +58,9 @@ impl Machine {
     pub(crate) fn reusable(&self, pid: u32, pages: u32) -> Option<u32>
         ensures { result ≡ reusable self.now pid pages }
     {
-        let process = match table::entry_of(self.processes.as_slice(), pid) {
-            Some(process) => process,
-            None => return None,
-        };
+        let process = table::entry_of(self.processes.as_slice(), pid)?;
         let transfers = self.transfers.as_slice();
-        match first_reusable(process.queue(), process.regions(), transfers, pages) {
-            Some(number) => Some(*number),
-            None => None,
-        }
+        first_reusable(process.queue(), process.regions(), transfers, pages).copied()
     }
 
     // The call of an input.

@@ -29,10 +29,7 @@ impl Machine {
     pub(crate) fn reached(&self, pid: u32, addr: u32, len: u32) -> Option<u32>
         ensures { result ≡ number_of (reach_of self.now pid addr len) }
     {
-        match self.reach(pid, addr, len) {
-            Some(region) => Some(region.number()),
-            None => None,
-        }
+        Some(self.reach(pid, addr, len)?.number())
     }
 
     // A call is pending from now on.

@@ -77,10 +77,7 @@ impl Machine {
     fn first_posted(&self, dev: u32, port: u16, flow: Option<u32>) -> Option<u32>
         ensures { result ≡ first_posted self.now dev port flow }
     {
-        match first_posted(self.transfers.as_slice(), dev, port, flow) {
-            Some(transfer) => Some(transfer.number()),
-            None => None,
-        }
+        Some(first_posted(self.transfers.as_slice(), dev, port, flow)?.number())
     }
 
     // As many datagrams wait as the device has room for.
@@ -184,7 +181,7 @@ impl Machine {
     }
 
     // Payload bytes from place `at` on have come.
-    fn come(&mut self, at: u32, bytes: &[u8], fate: Fate) -> Result<(), NoMemory>
+    fn land(&mut self, at: u32, bytes: &[u8], fate: Fate) -> Result<(), NoMemory>
         requires { at + length bytes.now < 2 ^ 32 }
         ensures { OnOk result (self.new ≡ land self.old at bytes.now fate) }
     {
@@ -210,7 +207,7 @@ impl Machine {
         let mut v = v;
         let mut g = g;
         let bytes = v.take_front(self.alloc, b)?;
-        self.come(g.moved(), bytes.as_slice(), g.fate())?;
+        self.land(g.moved(), bytes.as_slice(), g.fate())?;
         g.extend(bytes.as_slice())?;
         self.go_on(dev, v, g, h + b)
     }

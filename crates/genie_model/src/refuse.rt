@@ -8,11 +8,10 @@ ghost use Rattle.genie_model.specs.Pending.{wired};
 ghost use Rattle.genie_model.specs.Refusing.{refuse, causes, first_cause, new_region_causes, accessible_pages, over_backing, must_stay_writable, has_output, has_input, may_move, must_make, call_causes, app_causes, sys_causes, buffer_causes, target_causes, most_of, frames_to_wire};
 ghost use Rattle.genie_model.specs.Tables.{entry};
 
-use crate::input::address_or_zero;
 use crate::machine::Machine;
 use crate::region::Region;
 use crate::table;
-use crate::transfer::{any_weak_input_into, cost_of_span, numbered, wired};
+use crate::transfer::{address_or_zero, any_weak_input_into, cost_of_span, numbered, wired};
 use genie_base::{Class, Direction, Event, Refusal, Semantics, span};
 
 /// The most regions that a process may have.

@@ -46,14 +46,19 @@ impl Machine {
         }
     }
 
+    // Whether an output has bytes to stage on a device.
+    fn must_stage(&self, dev: u32, transfer: &Transfer) -> bool
+        ensures { result ≡ must_stage self.now dev transfer.now }
+    {
+        self.is_outboard_at(dev) && transfer.staged() < transfer.len()
+    }
+
     // Whether the first output that waits for a device has bytes to stage, or `None` where no output waits.
-    fn must_stage(&self, dev: u32) -> Option<bool>
+    fn must_stage_first(&self, dev: u32) -> Option<bool>
         ensures { result ≡ option_map (must_stage self.now dev) (first_queued self.now dev) }
     {
-        match first_queued(self.transfers.as_slice(), dev) {
-            None => None,
-            Some(transfer) => Some(self.is_outboard_at(dev) && transfer.staged() < transfer.len()),
-        }
+        let transfer = first_queued(self.transfers.as_slice(), dev)?;
+        Some(self.must_stage(dev, transfer))
     }
 
     // How many bytes a send step of a device sends, or 0 where no output waits for it.
@@ -132,7 +137,7 @@ impl Machine {
     pub(crate) fn send(&mut self, dev: u32, n: u32) -> Result<Reply, NoMemory>
         ensures { IfOk result (λ reply. send self.old dev n ≡ (self.new, reply)) }
     {
-        match self.must_stage(dev) {
+        match self.must_stage_first(dev) {
             None => Ok(Reply::Idle),
             Some(true) => self.stage(dev, n),
             Some(false) => self.send_next(dev, n),
@@ -146,8 +151,7 @@ impl Machine {
         match first_queued(self.transfers.as_slice(), dev) {
             None => false,
             Some(transfer) => {
-                let staging = self.is_outboard_at(dev) && transfer.staged() < transfer.len();
-                !staging && (k == 0 || u64::from(k) < transfer.unsent())
+                !self.must_stage(dev, transfer) && (k == 0 || u64::from(k) < transfer.unsent())
             }
         }
     }

@@ -105,10 +105,7 @@ impl Machine {
         requires { pages ≤ 64 }
         ensures { IfOk result (λ r. r ≡ zeros_at_place self.now state pid pages) }
     {
-        let start = match self.place_of(pid, pages) {
-            Some(start) => start,
-            None => 0,
-        };
+        let start = self.place_of(pid, pages).unwrap_or(0);
         let purpose = Purpose {
             area: Area::Sys,
             state,

@@ -1,5 +1,5 @@
 //! A pending transfer.
-ghost use Rattle.std.specs.Prelude.{◌≡◌, ◌+◌, ◌-◌, ◌*◌, ◌<◌, ◌≤◌, ◌^◌, [], Some, None, length, map, filter, not, find, take, count_by, sum_by, IfOk, OnOk};
+ghost use Rattle.std.specs.Prelude.{◌≡◌, ◌+◌, ◌-◌, ◌*◌, ◌<◌, ◌≤◌, ◌^◌, [], Some, None, length, map, filter, not, find, count_by, sum_by, IfOk, OnOk};
 ghost use Rattle.std.specs.List.{list_any};
 ghost use Rattle.std.specs.Option.{option_copied};
 ghost use Rattle.genie_base.specs.Posted.{meets_flow};
@@ -10,7 +10,7 @@ ghost use Rattle.genie_base.specs.Counts.{cost};
 ghost use Rattle.genie_base.specs.declared.semantics.Direction.TheVariants.{Outward, Inward};
 ghost use Rattle.genie_model.specs.State.{Transfer as Pending};
 ghost use Rattle.genie_model.specs.declared.phase.Phase.TheVariants.{Queued, Posted};
-ghost use Rattle.genie_model.specs.Pending.{is_ready, is_queued, is_posted, is_just, awaits, has_arrived, is_numbered, waits_for, touched, cost_of, names, names_weakly, covers};
+ghost use Rattle.genie_model.specs.Pending.{is_ready, is_queued, is_inward, is_posted, is_just, awaits, has_arrived, is_numbered, waits_for, touched, cost_of, names, names_weakly, covers};
 ghost use Rattle.genie_model.specs.Inputs.{address_or_zero};
 ghost use Rattle.genie_model.specs.Space.{disowned, is_posted_by};
 ghost use Rattle.genie_model.specs.Refusing.{is_weak_input_into};
@@ -21,7 +21,7 @@ ghost use Rattle.genie_model.specs.Tables.{change, without};
 
 use crate::change::Turn;
 use crate::phase::Phase;
-use genie_base::{Class, Direction, NoMemory, Note, PageSize, Reply, span};
+use genie_base::{Class, Direction, NoMemory, Note, PageSize, Reply, part, span};
 use std::alloc::Global;
 use std::marker::Model;
 
@@ -100,6 +100,13 @@ pub(crate) struct Call {
     pub(crate) class: Class,
     pub(crate) target: Target,
     pub(crate) len: u32,
+}
+
+// The address, or 0.
+pub(crate) fn address_or_zero(addr: Option<u32>) -> u32
+    ensures { result ≡ address_or_zero addr }
+{
+    addr.unwrap_or(0)
 }
 
 // How many frames a transfer that touches so many pages may need.
@@ -218,6 +225,15 @@ impl Transfer {
         self.direction
     }
 
+    fn is_inward(&self) -> bool
+        ensures { result ≡ is_inward self.now.direction }
+    {
+        match self.direction {
+            Direction::Inward => true,
+            Direction::Outward => false,
+        }
+    }
+
     pub(crate) fn class(&self) -> Class
         ensures { result ≡ self.now.class }
     {
@@ -264,10 +280,7 @@ impl Transfer {
     pub(crate) fn address_or_zero(&self) -> u32
         ensures { result ≡ address_or_zero self.now.addr }
     {
-        match self.addr {
-            Some(addr) => addr,
-            None => 0,
-        }
+        address_or_zero(self.addr)
     }
 
     // The reply to its `done`, with the address where the system placed its buffer.
@@ -383,11 +396,7 @@ impl Transfer {
     fn is_weak_input_into(&self, number: u32) -> bool
         ensures { result ≡ is_weak_input_into number self.now }
     {
-        let is_inward = match self.direction {
-            Direction::Inward => true,
-            Direction::Outward => false,
-        };
-        is_inward && self.names_weakly(number)
+        self.is_inward() && self.names_weakly(number)
     }
 
     // Whether it is weak and covers this place of this region or orphan.
@@ -482,13 +491,6 @@ fn meets(posted: Option<u32>, wanted: Option<u32>) -> bool
     }
 }
 
-// The bytes as far as the first `n`.
-fn front(bytes: &[u8], n: usize) -> &[u8]
-    ensures { result.now ≡ take n bytes.now }
-{
-    if n < bytes.len() { &bytes[..n] } else { bytes }
-}
-
 // How a datagram of so many bytes met a buffer.
 fn note_of(truncated: bool, len: u32, buffer: u32) -> Note
     ensures { result ≡ note_of truncated len buffer }
@@ -514,11 +516,7 @@ impl Transfer {
     fn has_arrived(&self, device: u32) -> bool
         ensures { result ≡ has_arrived device self.now }
     {
-        let is_inward = match self.direction {
-            Direction::Inward => true,
-            Direction::Outward => false,
-        };
-        is_inward && self.is_ready() && self.device == device
+        self.is_inward() && self.is_ready() && self.device == device
     }
 
     // The region or orphan in which a weak one stores what comes.
@@ -536,7 +534,7 @@ impl Transfer {
     pub(crate) fn fitting<'a>(&self, at: u32, bytes: &'a [u8]) -> &'a [u8]
         ensures { result.now ≡ fitting self.now at bytes.now }
     {
-        front(bytes, self.len.saturating_sub(at) as usize)
+        part(bytes, 0, self.len.saturating_sub(at) as usize)
     }
 
     fn keep(&mut self, at: u32, bytes: &[u8]) -> Result<(), NoMemory>
@@ -547,7 +545,7 @@ impl Transfer {
         if !self.class.is_strong() {
             return Ok(());
         }
-        let fitting = front(bytes, self.len.saturating_sub(at) as usize);
+        let fitting = self.fitting(at, bytes);
         self.payload.extend_from_slice(fitting)?;
         Ok(())
     }
@@ -555,7 +553,7 @@ impl Transfer {
     fn gather(&mut self, truncated: bool, len: u32, bytes: &[u8]) -> Result<(), NoMemory>
         ensures { OnOk result (self.new ≡ gathered truncated len bytes.now self.old) }
     {
-        let fitting = front(bytes, self.len as usize);
+        let fitting = part(bytes, 0, self.len as usize);
         self.phase = Phase::Ready;
         self.stored = fitting.len() as u32;
         self.note = note_of(truncated, len, self.len);
