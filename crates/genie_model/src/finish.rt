@@ -11,7 +11,8 @@ use crate::change::Change;
 use crate::machine::Machine;
 use crate::region::Region;
 use crate::table;
-use crate::transfer::{Transfer, take};
+use crate::transfer::Transfer;
+use crate::transfers::take;
 use genie_base::{Class, Direction, RegionState, Reply};
 
 impl Machine {

@@ -14,7 +14,8 @@ use crate::machine::Machine;
 use crate::orphan::Orphan;
 use crate::region::Region;
 use crate::table;
-use crate::transfer::{Call, Target, Transfer, address_or_zero, any_names};
+use crate::transfer::{Call, Target, Transfer, address_or_zero};
+use crate::transfers::any_names;
 use genie_base::{Class, NoMemory, RegionState, Reply};
 
 fn any_with_pages(regions: &[Region], number: u32, pages: u32) -> bool

@@ -9,7 +9,8 @@ ghost use Rattle.genie_model.specs.State.{Orphan as Left};
 ghost use Rattle.genie_model.specs.Tables.{put_in};
 
 use crate::region::Region;
-use crate::transfer::{Transfer, any_covers, any_names_weakly};
+use crate::transfer::Transfer;
+use crate::transfers::{any_covers, any_names_weakly};
 use genie_base::NoMemory;
 use std::alloc::Global;
 use std::marker::Model;

@@ -12,7 +12,7 @@ use crate::datagram::{Datagram, Fate, is_valid_header, is_whole_header, len_in, 
 use crate::device::Device;
 use crate::machine::Machine;
 use crate::table;
-use crate::transfer::{arrived, first_posted, numbered, turn_first};
+use crate::transfers::{arrived, first_posted, numbered, turn_first};
 use genie_base::{NoMemory, Reply};
 use std::alloc::Global;
 

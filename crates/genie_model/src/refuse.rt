@@ -11,7 +11,8 @@ ghost use Rattle.genie_model.specs.Tables.{entry};
 use crate::machine::Machine;
 use crate::region::Region;
 use crate::table;
-use crate::transfer::{address_or_zero, any_weak_input_into, cost_of_span, numbered, wired};
+use crate::transfer::{address_or_zero, cost_of_span};
+use crate::transfers::{any_weak_input_into, numbered, wired};
 use genie_base::{Class, Direction, Event, Refusal, Semantics, span};
 
 /// The most regions that a process may have.

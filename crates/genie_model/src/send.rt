@@ -7,7 +7,8 @@ ghost use Rattle.genie_model.specs.Sending.{send, send_count, stage_count, next_
 
 use crate::machine::Machine;
 use crate::table;
-use crate::transfer::{Transfer, first_queued, send_first, stage_first};
+use crate::transfer::Transfer;
+use crate::transfers::{first_queued, send_first, stage_first};
 use genie_base::{NoMemory, Reply, part};
 
 impl Machine {

@@ -11,7 +11,7 @@ use crate::orphan::{Orphan, add_orphans, any_orphan, insert_orphan};
 use crate::process::Process;
 use crate::region::{Purpose, Region};
 use crate::table;
-use crate::transfer::disown_all;
+use crate::transfers::disown_all;
 use genie_base::{Area, NoMemory, RegionState, Reply};
 
 /// More numbers than regions and orphans can use.
