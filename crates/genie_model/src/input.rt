@@ -5,16 +5,17 @@ ghost use Rattle.std.specs.Option.{option_copied};
 ghost use Rattle.genie_base.specs.declared.semantics.Class.TheVariants.{Copy, Share, Move, WeakMove};
 ghost use Rattle.genie_model.specs.Regions.{fresh, regions_at};
 ghost use Rattle.genie_model.specs.Pending.{names, pending, add_transfer};
-ghost use Rattle.genie_model.specs.Inputs.{pages_for, has_pages, reusable, moved_in, weak_buffer, input_of, input};
+ghost use Rattle.genie_model.specs.Inputs.{pages_for, has_pages, reusable, moved_in, input_of, input};
 ghost use Rattle.genie_model.specs.Refusing.{must_make};
 ghost use Rattle.genie_model.specs.Ending.{after_cancel, cancel, region_of};
+ghost use Rattle.genie_model.specs.Space.{zeros_at_place, add_region};
 ghost use Rattle.genie_model.specs.Targets.{address_of};
 
 use crate::machine::Machine;
 use crate::orphan::Orphan;
 use crate::region::Region;
 use crate::table;
-use crate::transfer::{Call, Target, Transfer, address_or_zero};
+use crate::transfer::{Target, Transfer, address_or_zero};
 use crate::transfers::any_names;
 use genie_base::{Class, NoMemory, RegionState, Reply};
 
@@ -64,20 +65,6 @@ impl Machine {
         first_reusable(process.queue(), process.regions(), transfers, pages).copied()
     }
 
-    // The call of an input.
-    fn call(&self, pid: u32, class: Class, target: Target, len: u32) -> Call
-        requires { self.now.next < 2 ^ 32 }
-        ensures { result ≡ record { number = self.now.next; owner = pid; class = class; target = target; len = len } }
-    {
-        Call {
-            number: self.next as u32,
-            owner: pid,
-            class,
-            target,
-            len,
-        }
-    }
-
     // A copy input keeps its address.
     fn input_copy(
         &mut self,
@@ -115,23 +102,24 @@ impl Machine {
         self.add_transfer(transfer)
     }
 
-    // A move input has a held region of zeros.
-    fn input_move(
+    // An input that has a region of zeros.
+    fn input_into_zeros(
         &mut self,
         pid: u32,
+        class: Class,
+        state: RegionState,
         target: Target,
-        addr: Option<u32>,
         len: u32,
     ) -> Result<(), NoMemory>
         requires few { length self.old.transfers < 64 }
         requires numbered { self.old.next < 2 ^ 32 }
         requires short { len ≤ 64 * self.old.config.page }
         requires room { length (regions_at self.old pid) < 32 }
-        ensures { OnOk result (self.new ≡ (input self.old pid Move (address_of target) addr len).0) }
+        ensures { OnOk result (self.new ≡ add_transfer (add_region self.old pid (zeros_at_place self.old state pid (pages_for self.old len))) (input_of self.old pid class (address_of target) len None (Some (fresh self.old)) 0)) }
     {
         let pages = self.pages_for(len);
-        let region = self.zeros_at_place(RegionState::Held, pid, pages)?;
-        let call = self.call(pid, Class::Move, target, len);
+        let region = self.zeros_at_place(state, pid, pages)?;
+        let call = self.call(pid, class, target, len);
         let transfer = Transfer::input(self.alloc, call, None, Some(region.number()), 0);
         self.add_region(pid, region)?;
         self.add_transfer(transfer)
@@ -155,22 +143,6 @@ impl Machine {
         self.add_transfer(transfer)
     }
 
-    // A weak move input that has a region of zeros.
-    fn input_fresh(&mut self, pid: u32, target: Target, len: u32) -> Result<(), NoMemory>
-        requires few { length self.old.transfers < 64 }
-        requires numbered { self.old.next < 2 ^ 32 }
-        requires short { len ≤ 64 * self.old.config.page }
-        requires room { length (regions_at self.old pid) < 32 }
-        ensures { OnOk result (self.new ≡ add_transfer (weak_buffer self.old pid len None) (input_of self.old pid WeakMove (address_of target) len None (Some (fresh self.old)) 0)) }
-    {
-        let pages = self.pages_for(len);
-        let region = self.zeros_at_place(RegionState::In, pid, pages)?;
-        let call = self.call(pid, Class::WeakMove, target, len);
-        let transfer = Transfer::input(self.alloc, call, None, Some(region.number()), 0);
-        self.add_region(pid, region)?;
-        self.add_transfer(transfer)
-    }
-
     // A weak move input.
     fn input_weak_move(
         &mut self,
@@ -188,7 +160,7 @@ impl Machine {
         let pages = self.pages_for(len);
         match self.reusable(pid, pages) {
             Some(number) => self.input_reused(pid, target, len, number),
-            None => self.input_fresh(pid, target, len),
+            None => self.input_into_zeros(pid, Class::WeakMove, RegionState::In, target, len),
         }
     }
 }
@@ -212,7 +184,7 @@ impl Machine {
         match class {
             Class::Copy => self.input_copy(pid, target, addr, len),
             Class::Share => self.input_share(pid, target, addr, len),
-            Class::Move => self.input_move(pid, target, addr, len),
+            Class::Move => self.input_into_zeros(pid, Class::Move, RegionState::Held, target, len),
             Class::WeakMove => self.input_weak_move(pid, target, addr, len),
         }
     }

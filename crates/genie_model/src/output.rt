@@ -32,6 +32,20 @@ impl Machine {
         Some(self.reach(pid, addr, len)?.number())
     }
 
+    // A call with the next number.
+    pub(crate) fn call(&self, pid: u32, class: Class, target: Target, len: u32) -> Call
+        requires { self.now.next < 2 ^ 32 }
+        ensures { result ≡ record { number = self.now.next; owner = pid; class = class; target = target; len = len } }
+    {
+        Call {
+            number: self.next as u32,
+            owner: pid,
+            class,
+            target,
+            len,
+        }
+    }
+
     // A call is pending from now on.
     pub(crate) fn add_transfer(&mut self, transfer: Transfer) -> Result<(), NoMemory>
         requires few { length self.old.transfers < 64 }
@@ -55,13 +69,7 @@ impl Machine {
         requires { self.now.next < 2 ^ 32 }
         ensures { IfOk result (λ t. t ≡ output_of self.now pid class (address_of target) addr len (reach_of self.now pid addr len)) }
     {
-        let call = Call {
-            number: self.next as u32,
-            owner: pid,
-            class,
-            target,
-            len,
-        };
+        let call = self.call(pid, class, target, len);
         let place = self.place(pid, addr, len);
         if !class.is_strong() {
             let region = self.reached(pid, addr, len);
