@@ -175,20 +175,14 @@ impl Device {
     pub(crate) fn is_early(&self) -> bool
         ensures { result ≡ is_early self.now.kind }
     {
-        match self.kind {
-            Kind::Early => true,
-            Kind::Pooled | Kind::Outboard => false,
-        }
+        matches!(self.kind, Kind::Early)
     }
 
     // Whether it stages its output.
     pub(crate) fn is_outboard(&self) -> bool
         ensures { result ≡ is_outboard self.now.kind }
     {
-        match self.kind {
-            Kind::Outboard => true,
-            Kind::Early | Kind::Pooled => false,
-        }
+        matches!(self.kind, Kind::Outboard)
     }
 
     // Lends what was sent.

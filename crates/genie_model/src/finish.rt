@@ -20,10 +20,7 @@ impl Machine {
     pub(crate) fn is_early_at(&self, dev: u32) -> bool
         ensures { result ≡ is_early_at self.now dev }
     {
-        match table::entry_of(self.devices.as_slice(), dev) {
-            Some(device) => device.is_early(),
-            None => false,
-        }
+        table::entry_of(self.devices.as_slice(), dev).is_some_and(|device| device.is_early())
     }
 
     // The region that a transfer names, where it isn't an orphan.

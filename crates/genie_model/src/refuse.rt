@@ -26,20 +26,14 @@ impl Machine {
     fn has_output(&self, dev: u32) -> bool
         ensures { result ≡ has_output (entry self.now.config.devices dev) }
     {
-        match table::entry_of(&self.config.devices, dev) {
-            Some(device) => device.output.is_some(),
-            None => false,
-        }
+        table::entry_of(&self.config.devices, dev).is_some_and(|device| device.output.is_some())
     }
 
     // Whether there is such a device, with an input.
     fn has_input(&self, dev: u32) -> bool
         ensures { result ≡ has_input (entry self.now.config.devices dev) }
     {
-        match table::entry_of(&self.config.devices, dev) {
-            Some(device) => device.input.is_some(),
-            None => false,
-        }
+        table::entry_of(&self.config.devices, dev).is_some_and(|device| device.input.is_some())
     }
 
     // The longest datagram of a device, in bytes.

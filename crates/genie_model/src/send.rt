@@ -16,10 +16,7 @@ impl Machine {
     fn is_outboard_at(&self, dev: u32) -> bool
         ensures { result ≡ is_outboard_at self.now dev }
     {
-        match table::entry_of(self.devices.as_slice(), dev) {
-            Some(device) => device.is_outboard(),
-            None => false,
-        }
+        table::entry_of(self.devices.as_slice(), dev).is_some_and(|device| device.is_outboard())
     }
 
     // The `n` bytes from place `at` on of the region or orphan that a transfer names.

@@ -224,10 +224,7 @@ impl Transfer {
     fn is_inward(&self) -> bool
         ensures { result ≡ is_inward self.now.direction }
     {
-        match self.direction {
-            Direction::Inward => true,
-            Direction::Outward => false,
-        }
+        matches!(self.direction, Direction::Inward)
     }
 
     pub(crate) fn class(&self) -> Class
@@ -312,37 +309,25 @@ impl Transfer {
     pub(crate) fn is_ready(&self) -> bool
         ensures { result ≡ is_ready self.now.phase }
     {
-        match self.phase {
-            Phase::Ready => true,
-            Phase::Queued | Phase::Posted | Phase::Moving => false,
-        }
+        matches!(self.phase, Phase::Ready)
     }
 
     fn is_queued(&self) -> bool
         ensures { result ≡ is_queued self.now.phase }
     {
-        match self.phase {
-            Phase::Queued => true,
-            Phase::Posted | Phase::Moving | Phase::Ready => false,
-        }
+        matches!(self.phase, Phase::Queued)
     }
 
     pub(crate) fn is_posted(&self) -> bool
         ensures { result ≡ is_posted self.now.phase }
     {
-        match self.phase {
-            Phase::Posted => true,
-            Phase::Queued | Phase::Moving | Phase::Ready => false,
-        }
+        matches!(self.phase, Phase::Posted)
     }
 
     fn is_owned_by(&self, pid: u32) -> bool
         ensures { result ≡ is_just self.now.owner pid }
     {
-        match self.owner {
-            Some(owner) => owner == pid,
-            None => false,
-        }
+        self.owner == Some(pid)
     }
 
     // Whether it is a posted input of the process that no record has met.
@@ -375,10 +360,7 @@ impl Transfer {
     pub(crate) fn names(&self, number: u32) -> bool
         ensures { result ≡ names number self.now }
     {
-        match self.region {
-            Some(region) => region == number,
-            None => false,
-        }
+        self.region == Some(number)
     }
 
     // Whether it is weak and names this region or orphan.
