@@ -35,10 +35,11 @@ impl Machine {
         ensures { finish_copy self.old transfer.now (write_reach_of self.old pid (address_or_zero transfer.now.addr) transfer.now.len) ≡ (self.new, result) }
     {
         let addr = transfer.address_or_zero();
-        let (number, place) = match self.write_reach(pid, addr, transfer.len()) {
-            Some(region) => (region.number(), region.place_of(self.page, addr)),
-            None => return Reply::Lost,
+        let Some(region) = self.write_reach(pid, addr, transfer.len()) else {
+            return Reply::Lost;
         };
+        let number = region.number();
+        let place = region.place_of(self.page, addr);
         self.put(number, place, transfer.payload());
         transfer.arrived(None)
     }
@@ -47,10 +48,11 @@ impl Machine {
     fn finish_move(&mut self, transfer: &Transfer) -> Reply
         ensures { finish_move self.old transfer.now (region_of self.old transfer.now) ≡ (self.new, result) }
     {
-        let (number, addr) = match self.region_of(transfer) {
-            Some(region) => (region.number(), self.address_of(region)),
-            None => return Reply::Lost,
+        let Some(region) = self.region_of(transfer) else {
+            return Reply::Lost;
         };
+        let number = region.number();
+        let addr = self.address_of(region);
         self.change_region(number, &Change::Fill(transfer.payload()));
         transfer.arrived(Some(addr))
     }
@@ -68,10 +70,10 @@ impl Machine {
     fn finish_share(&mut self, transfer: &Transfer) -> Reply
         ensures { finish_share self.old transfer.now (region_of self.old transfer.now) ≡ (self.new, result) }
     {
-        let number = match self.region_of(transfer) {
-            Some(region) => region.number(),
-            None => return Reply::Lost,
+        let Some(region) = self.region_of(transfer) else {
+            return Reply::Lost;
         };
+        let number = region.number();
         self.land_late(transfer, number);
         transfer.arrived(None)
     }
@@ -80,10 +82,11 @@ impl Machine {
     fn finish_weak_move(&mut self, transfer: &Transfer) -> Reply
         ensures { finish_weak_move self.old transfer.now (region_of self.old transfer.now) ≡ (self.new, result) }
     {
-        let (number, addr) = match self.region_of(transfer) {
-            Some(region) => (region.number(), self.address_of(region)),
-            None => return Reply::Lost,
+        let Some(region) = self.region_of(transfer) else {
+            return Reply::Lost;
         };
+        let number = region.number();
+        let addr = self.address_of(region);
         self.land_late(transfer, number);
         self.change_region(number, &Change::State(RegionState::Live));
         transfer.arrived(Some(addr))
@@ -131,9 +134,9 @@ impl Machine {
         requires { IsSome (pending self.old id) }
         ensures { finish self.old id ≡ (self.new, result) }
     {
-        match self.take(id) {
-            None => unreachable!(),
-            Some(transfer) => self.finish_for(&transfer),
-        }
+        let Some(transfer) = self.take(id) else {
+            unreachable!()
+        };
+        self.finish_for(&transfer)
     }
 }

@@ -75,9 +75,8 @@ impl Flat {
         requires { Fits (config_of config.now) }
         ensures { IfOk result (λ flat. flat ≡ Some (boot (config_of config.now) (λ _. []))) }
     {
-        let page = match PageSize::new(config.page) {
-            Some(page) => page,
-            None => unreachable!(),
+        let Some(page) = PageSize::new(config.page) else {
+            unreachable!()
         };
         let processes = no_processes(alloc)?;
         let devices = boot_devices(alloc, &config.devices)?;
@@ -106,13 +105,9 @@ impl Flat {
         if self.failed {
             return Err(NoMemory);
         }
-        match self.machine.step(event, mark) {
-            Ok(reply) => Ok(reply),
-            Err(error) => {
-                self.failed = true;
-                Err(error)
-            }
-        }
+        let result = self.machine.step(event, mark);
+        self.failed = result.is_err();
+        result
     }
 
     /// Gives a device the bytes of its input; a device without an input never looks at them. After `NoMemory` it answers `NoMemory` for good.

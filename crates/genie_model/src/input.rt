@@ -193,10 +193,10 @@ impl Machine {
     fn cancel_move(&mut self, transfer: &Transfer) -> Result<(), NoMemory>
         ensures { OnOk result (self.new ≡ after_cancel self.old Move (region_of self.old transfer.now)) }
     {
-        let orphan = match self.region_of(transfer) {
-            Some(region) => Orphan::of(self.alloc, region)?,
-            None => return Ok(()),
+        let Some(region) = self.region_of(transfer) else {
+            return Ok(());
         };
+        let orphan = Orphan::of(self.alloc, region)?;
         self.remove(orphan)
     }
 
@@ -204,10 +204,10 @@ impl Machine {
     fn cancel_weak_move(&mut self, transfer: &Transfer) -> Result<(), NoMemory>
         ensures { OnOk result (self.new ≡ after_cancel self.old WeakMove (region_of self.old transfer.now)) }
     {
-        let number = match self.region_of(transfer) {
-            Some(region) => region.number(),
-            None => return Ok(()),
+        let Some(region) = self.region_of(transfer) else {
+            return Ok(());
         };
+        let number = region.number();
         self.move_out(number)
     }
 
@@ -226,9 +226,9 @@ impl Machine {
         requires { IsSome (pending self.old id) }
         ensures { OnOk result (self.new ≡ (cancel self.old id).0) }
     {
-        match self.take(id) {
-            None => unreachable!(),
-            Some(transfer) => self.after_cancel(&transfer),
-        }
+        let Some(transfer) = self.take(id) else {
+            unreachable!()
+        };
+        self.after_cancel(&transfer)
     }
 }

@@ -108,10 +108,10 @@ impl Machine {
         requires { IsSome (reach_of self.now pid addr len) }
         ensures { IfOk result (λ o. Some o ≡ option_map as_orphan (reach_of self.now pid addr len)) }
     {
-        match self.reach(pid, addr, len) {
-            Some(region) => Orphan::of(self.alloc, region),
-            None => unreachable!(),
-        }
+        let Some(region) = self.reach(pid, addr, len) else {
+            unreachable!()
+        };
+        Orphan::of(self.alloc, region)
     }
 
     // An output that takes its region away.
@@ -139,10 +139,10 @@ impl Machine {
         requires reached { IsSome (reach_of self.old pid addr len) }
         ensures { OnOk result (self.new ≡ (output self.old pid WeakMove (address_of target) addr len).0) }
     {
-        let number = match self.reach(pid, addr, len) {
-            Some(region) => region.number(),
-            None => unreachable!(),
+        let Some(region) = self.reach(pid, addr, len) else {
+            unreachable!()
         };
+        let number = region.number();
         self.add_output(pid, Class::WeakMove, target, addr, len)?;
         self.move_out(number)
     }

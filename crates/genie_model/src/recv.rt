@@ -99,15 +99,12 @@ impl Machine {
         ensures { IfOk result (λ reply. deliver self.old g.now truncated k (first_posted self.old dev g.now.port g.now.flow) ≡ (self.new, reply)) }
     {
         let len = g.len();
-        let number = match self.first_posted(dev, g.port(), g.flow()) {
-            Some(number) => number,
-            None => {
-                return Ok(Reply::Dropped {
-                    port: g.port(),
-                    flow: g.flow(),
-                    len,
-                });
-            }
+        let Some(number) = self.first_posted(dev, g.port(), g.flow()) else {
+            return Ok(Reply::Dropped {
+                port: g.port(),
+                flow: g.flow(),
+                len,
+            });
         };
         let bytes = g.bytes();
         let turn = Turn::Gathered {
@@ -165,16 +162,13 @@ impl Machine {
         requires { at + length bytes.now < 2 ^ 32 }
         ensures { OnOk result (self.new ≡ land_in self.old at bytes.now (pending self.old number)) }
     {
-        let (number, landing, place, fitting) = match numbered(self.transfers.as_slice(), number) {
-            Some(transfer) => (
-                transfer.number(),
-                transfer.landing(),
-                transfer.offset() as usize + at as usize,
-                transfer.fitting(at, bytes),
-            ),
-            None => return Ok(()),
+        let Some(transfer) = numbered(self.transfers.as_slice(), number) else {
+            return Ok(());
         };
-        if let Some(region) = landing {
+        let number = transfer.number();
+        let place = transfer.offset() as usize + at as usize;
+        let fitting = transfer.fitting(at, bytes);
+        if let Some(region) = transfer.landing() {
             self.put(region, place, fitting);
         }
         self.change_transfer(number, &Turn::Received { at, bytes })

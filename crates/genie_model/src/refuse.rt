@@ -283,10 +283,8 @@ impl Machine {
     fn may_move(&self, pid: u32, addr: u32, len: u32) -> bool
         ensures { result ≡ may_move (reach_of self.now pid addr len) }
     {
-        match self.reach(pid, addr, len) {
-            Some(region) => region.is_sys() && region.is_live(),
-            None => false,
-        }
+        self.reach(pid, addr, len)
+            .is_some_and(|region| region.is_sys() && region.is_live())
     }
 
     fn refuse_output(

@@ -83,9 +83,8 @@ impl Machine {
     fn next_part(&self, dev: u32, k: u32) -> Result<Vec<u8>, NoMemory>
         ensures { IfOk result (λ bytes. (t : Pending) → first_queued self.now dev ≡ Some t → bytes.items ≡ next_part self.now k t) }
     {
-        let transfer = match first_queued(self.transfers.as_slice(), dev) {
-            None => return Ok(Vec::new(self.alloc)),
-            Some(transfer) => transfer,
+        let Some(transfer) = first_queued(self.transfers.as_slice(), dev) else {
+            return Ok(Vec::new(self.alloc));
         };
         let payload = self.payload_of(transfer)?;
         let record = transfer.record(self.alloc, payload.as_slice())?;
@@ -97,9 +96,8 @@ impl Machine {
     fn staged_now(&self, dev: u32, k: u32) -> Result<Vec<u8>, NoMemory>
         ensures { IfOk result (λ bytes. (t : Pending) → first_queued self.now dev ≡ Some t → bytes.items ≡ staged_now self.now k t) }
     {
-        let transfer = match first_queued(self.transfers.as_slice(), dev) {
-            None => return Ok(Vec::new(self.alloc)),
-            Some(transfer) => transfer,
+        let Some(transfer) = first_queued(self.transfers.as_slice(), dev) else {
+            return Ok(Vec::new(self.alloc));
         };
         if transfer.is_strong() {
             return Ok(Vec::new(self.alloc));

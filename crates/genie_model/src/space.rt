@@ -139,10 +139,10 @@ impl Machine {
     pub(crate) fn unmap(&mut self, pid: u32, page: u32) -> Result<(), NoMemory>
         ensures { OnOk result (self.new ≡ (unmap self.old pid page).0) }
     {
-        let orphan = match self.region_from(pid, page) {
-            Some(region) => Orphan::of(self.alloc, region)?,
-            None => return Ok(()),
+        let Some(region) = self.region_from(pid, page) else {
+            return Ok(());
         };
+        let orphan = Orphan::of(self.alloc, region)?;
         self.remove(orphan)
     }
 
@@ -150,10 +150,10 @@ impl Machine {
     pub(crate) fn protect(&mut self, pid: u32, page: u32, writable: bool)
         ensures { self.new ≡ (protect self.old pid page writable).0 }
     {
-        let number = match self.region_from(pid, page) {
-            Some(region) => region.number(),
-            None => return,
+        let Some(region) = self.region_from(pid, page) else {
+            return;
         };
+        let number = region.number();
         self.change_region(number, &Change::Mode(writable));
     }
 
@@ -233,10 +233,11 @@ impl Machine {
         requires { length bytes.now < 2 ^ 32 }
         ensures { self.new ≡ (write self.old pid addr bytes.now).0 }
     {
-        let (number, place) = match self.reach(pid, addr, bytes.len() as u32) {
-            Some(region) => (region.number(), region.place_of(self.page, addr)),
-            None => return,
+        let Some(region) = self.reach(pid, addr, bytes.len() as u32) else {
+            return;
         };
+        let number = region.number();
+        let place = region.place_of(self.page, addr);
         self.put(number, place, bytes);
     }
 }
