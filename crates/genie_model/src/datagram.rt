@@ -169,27 +169,23 @@ impl Datagram {
     {
         self.moved += bytes.len() as u32;
         match self.fate {
-            Fate::Gathering => match self.bytes.extend_from_slice(bytes) {
-                Ok(()) => Ok(()),
-                Err(_) => Err(NoMemory),
-            },
-            Fate::Matched(_) | Fate::Skipped => Ok(()),
+            Fate::Gathering => self.bytes.extend_from_slice(bytes)?,
+            Fate::Matched(_) | Fate::Skipped => {}
         }
+        Ok(())
     }
 
     pub(crate) fn copy(&self, alloc: Global) -> Result<Datagram, NoMemory>
         ensures { IfOk result (λ g. g ≡ self.now) }
     {
-        match self.bytes.as_slice().to_vec(alloc) {
-            Ok(bytes) => Ok(Datagram {
-                port: self.port,
-                flow: self.flow,
-                len: self.len,
-                moved: self.moved,
-                fate: self.fate,
-                bytes,
-            }),
-            Err(_) => Err(NoMemory),
-        }
+        let bytes = self.bytes.as_slice().to_vec(alloc)?;
+        Ok(Datagram {
+            port: self.port,
+            flow: self.flow,
+            len: self.len,
+            moved: self.moved,
+            fate: self.fate,
+            bytes,
+        })
     }
 }

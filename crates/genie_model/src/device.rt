@@ -28,24 +28,12 @@ impl Model for Device {
     ghost view = { λ d. record { kind = d.kind; depth = d.depth; rest = d.rest.items; header = d.header.items; present = d.present; is_bad = d.is_bad; sent = d.sent.items } };
 }
 
-fn copy_bytes(alloc: Global, bytes: &[u8]) -> Result<Vec<u8>, NoMemory>
-    ensures { IfOk result (λ copy. copy.items ≡ bytes.now) }
-{
-    match bytes.to_vec(alloc) {
-        Ok(copy) => Ok(copy),
-        Err(_) => Err(NoMemory),
-    }
-}
-
 fn copy_datagram(alloc: Global, g: &Option<Datagram>) -> Result<Option<Datagram>, NoMemory>
     ensures { IfOk result (λ copy. copy ≡ g.now) }
 {
     match g {
         None => Ok(None),
-        Some(g) => match g.copy(alloc) {
-            Ok(copy) => Ok(Some(copy)),
-            Err(error) => Err(error),
-        },
+        Some(g) => Ok(Some(g.copy(alloc)?)),
     }
 }
 
@@ -68,30 +56,19 @@ impl Device {
     pub(crate) fn copy(&self, alloc: Global) -> Result<Device, NoMemory>
         ensures { IfOk result (λ d. d ≡ self.now) }
     {
-        let rest = match copy_bytes(alloc, self.rest.as_slice()) {
-            Ok(rest) => rest,
-            Err(error) => return Err(error),
-        };
-        let header = match copy_bytes(alloc, self.header.as_slice()) {
-            Ok(header) => header,
-            Err(error) => return Err(error),
-        };
-        let sent = match copy_bytes(alloc, self.sent.as_slice()) {
-            Ok(sent) => sent,
-            Err(error) => return Err(error),
-        };
-        match copy_datagram(alloc, &self.present) {
-            Ok(present) => Ok(Device {
-                kind: self.kind,
-                depth: self.depth,
-                rest,
-                header,
-                present,
-                is_bad: self.is_bad,
-                sent,
-            }),
-            Err(error) => Err(error),
-        }
+        let rest = self.rest.as_slice().to_vec(alloc)?;
+        let header = self.header.as_slice().to_vec(alloc)?;
+        let sent = self.sent.as_slice().to_vec(alloc)?;
+        let present = copy_datagram(alloc, &self.present)?;
+        Ok(Device {
+            kind: self.kind,
+            depth: self.depth,
+            rest,
+            header,
+            present,
+            is_bad: self.is_bad,
+            sent,
+        })
     }
 
     pub(crate) fn kind(&self) -> Kind
@@ -165,27 +142,17 @@ impl Device {
         ensures few { IfOk result (λ bytes. length bytes.items ≤ n) }
     {
         let n = n as usize;
-        let bytes = match copy_bytes(alloc, part(self.rest.as_slice(), 0, n)) {
-            Ok(bytes) => bytes,
-            Err(error) => return Err(error),
-        };
-        match copy_bytes(alloc, behind(self.rest.as_slice(), n)) {
-            Ok(rest) => {
-                self.rest = rest;
-                Ok(bytes)
-            }
-            Err(error) => Err(error),
-        }
+        let bytes = part(self.rest.as_slice(), 0, n).to_vec(alloc)?;
+        self.rest = behind(self.rest.as_slice(), n).to_vec(alloc)?;
+        Ok(bytes)
     }
 
     // Appends header bytes.
     pub(crate) fn extend_header(&mut self, bytes: &[u8]) -> Result<(), NoMemory>
         ensures { OnOk result (self.new ≡ record self.old { header = self.old.header ++ bytes.now }) }
     {
-        match self.header.extend_from_slice(bytes) {
-            Ok(()) => Ok(()),
-            Err(_) => Err(NoMemory),
-        }
+        self.header.extend_from_slice(bytes)?;
+        Ok(())
     }
 
     // It has received on, as `v` says. What it has sent stays.
@@ -208,20 +175,14 @@ impl Device {
     pub(crate) fn is_early(&self) -> bool
         ensures { result ≡ is_early self.now.kind }
     {
-        match self.kind {
-            Kind::Early => true,
-            Kind::Pooled | Kind::Outboard => false,
-        }
+        matches!(self.kind, Kind::Early)
     }
 
     // Whether it stages its output.
     pub(crate) fn is_outboard(&self) -> bool
         ensures { result ≡ is_outboard self.now.kind }
     {
-        match self.kind {
-            Kind::Outboard => true,
-            Kind::Early | Kind::Pooled => false,
-        }
+        matches!(self.kind, Kind::Outboard)
     }
 
     // Lends what was sent.

@@ -11,7 +11,8 @@ use crate::change::Change;
 use crate::machine::Machine;
 use crate::region::Region;
 use crate::table;
-use crate::transfer::{Transfer, take};
+use crate::transfer::Transfer;
+use crate::transfers::take;
 use genie_base::{Class, Direction, RegionState, Reply};
 
 impl Machine {
@@ -19,20 +20,14 @@ impl Machine {
     pub(crate) fn is_early_at(&self, dev: u32) -> bool
         ensures { result ≡ is_early_at self.now dev }
     {
-        match table::entry_of(self.devices.as_slice(), dev) {
-            Some(device) => device.is_early(),
-            None => false,
-        }
+        table::entry_of(self.devices.as_slice(), dev).is_some_and(|device| device.is_early())
     }
 
     // The region that a transfer names, where it isn't an orphan.
     pub(crate) fn region_of(&self, transfer: &Transfer) -> Option<&Region>
         ensures { option_copied result ≡ region_of self.now transfer.now }
     {
-        match transfer.region() {
-            Some(number) => self.region_numbered(number),
-            None => None,
-        }
+        self.region_numbered(transfer.region()?)
     }
 
     // A copy input's bytes are stored where a write of its range reaches.
@@ -40,10 +35,11 @@ impl Machine {
         ensures { finish_copy self.old transfer.now (write_reach_of self.old pid (address_or_zero transfer.now.addr) transfer.now.len) ≡ (self.new, result) }
     {
         let addr = transfer.address_or_zero();
-        let (number, place) = match self.write_reach(pid, addr, transfer.len()) {
-            Some(region) => (region.number(), region.place_of(self.page, addr)),
-            None => return Reply::Lost,
+        let Some(region) = self.write_reach(pid, addr, transfer.len()) else {
+            return Reply::Lost;
         };
+        let number = region.number();
+        let place = region.place_of(self.page, addr);
         self.put(number, place, transfer.payload());
         transfer.arrived(None)
     }
@@ -52,16 +48,17 @@ impl Machine {
     fn finish_move(&mut self, transfer: &Transfer) -> Reply
         ensures { finish_move self.old transfer.now (region_of self.old transfer.now) ≡ (self.new, result) }
     {
-        let (number, addr) = match self.region_of(transfer) {
-            Some(region) => (region.number(), self.address_of(region)),
-            None => return Reply::Lost,
+        let Some(region) = self.region_of(transfer) else {
+            return Reply::Lost;
         };
+        let number = region.number();
+        let addr = self.address_of(region);
         self.change_region(number, &Change::Fill(transfer.payload()));
         transfer.arrived(Some(addr))
     }
 
     // A weak input's bytes land now, where they haven't landed.
-    fn land(&mut self, transfer: &Transfer, region: u32)
+    fn land_late(&mut self, transfer: &Transfer, region: u32)
         ensures { (r : Placed) → r.number ≡ region → self.new ≡ after_landing self.old transfer.now r }
     {
         if !self.is_early_at(transfer.device()) {
@@ -73,11 +70,11 @@ impl Machine {
     fn finish_share(&mut self, transfer: &Transfer) -> Reply
         ensures { finish_share self.old transfer.now (region_of self.old transfer.now) ≡ (self.new, result) }
     {
-        let number = match self.region_of(transfer) {
-            Some(region) => region.number(),
-            None => return Reply::Lost,
+        let Some(region) = self.region_of(transfer) else {
+            return Reply::Lost;
         };
-        self.land(transfer, number);
+        let number = region.number();
+        self.land_late(transfer, number);
         transfer.arrived(None)
     }
 
@@ -85,11 +82,12 @@ impl Machine {
     fn finish_weak_move(&mut self, transfer: &Transfer) -> Reply
         ensures { finish_weak_move self.old transfer.now (region_of self.old transfer.now) ≡ (self.new, result) }
     {
-        let (number, addr) = match self.region_of(transfer) {
-            Some(region) => (region.number(), self.address_of(region)),
-            None => return Reply::Lost,
+        let Some(region) = self.region_of(transfer) else {
+            return Reply::Lost;
         };
-        self.land(transfer, number);
+        let number = region.number();
+        let addr = self.address_of(region);
+        self.land_late(transfer, number);
         self.change_region(number, &Change::State(RegionState::Live));
         transfer.arrived(Some(addr))
     }
@@ -136,9 +134,9 @@ impl Machine {
         requires { IsSome (pending self.old id) }
         ensures { finish self.old id ≡ (self.new, result) }
     {
-        match self.take(id) {
-            None => unreachable!(),
-            Some(transfer) => self.finish_for(&transfer),
-        }
+        let Some(transfer) = self.take(id) else {
+            unreachable!()
+        };
+        self.finish_for(&transfer)
     }
 }

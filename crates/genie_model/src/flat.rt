@@ -40,10 +40,7 @@ fn no_processes(alloc: Global) -> Result<Vec<Option<Process>>, NoMemory>
 {
     let mut processes = Vec::new(alloc);
     for _ in 0..PROCESSES {
-        match processes.push(None) {
-            Ok(()) => {}
-            Err(_) => return Err(NoMemory),
-        }
+        processes.push(None)?;
     }
     Ok(processes)
 }
@@ -67,10 +64,7 @@ fn boot_devices(
 {
     let mut devices = Vec::new(alloc);
     for config in configs {
-        match devices.push(boot_device(alloc, config)) {
-            Ok(()) => {}
-            Err(_) => return Err(NoMemory),
-        }
+        devices.push(boot_device(alloc, config))?;
     }
     Ok(devices)
 }
@@ -81,18 +75,11 @@ impl Flat {
         requires { Fits (config_of config.now) }
         ensures { IfOk result (λ flat. flat ≡ Some (boot (config_of config.now) (λ _. []))) }
     {
-        let page = match PageSize::new(config.page) {
-            Some(page) => page,
-            None => unreachable!(),
+        let Some(page) = PageSize::new(config.page) else {
+            unreachable!()
         };
-        let processes = match no_processes(alloc) {
-            Ok(processes) => processes,
-            Err(error) => return Err(error),
-        };
-        let devices = match boot_devices(alloc, &config.devices) {
-            Ok(devices) => devices,
-            Err(error) => return Err(error),
-        };
+        let processes = no_processes(alloc)?;
+        let devices = boot_devices(alloc, &config.devices)?;
         let machine = Machine {
             alloc,
             config: *config,
@@ -118,13 +105,9 @@ impl Flat {
         if self.failed {
             return Err(NoMemory);
         }
-        match self.machine.step(event, mark) {
-            Ok(reply) => Ok(reply),
-            Err(error) => {
-                self.failed = true;
-                Err(error)
-            }
-        }
+        let result = self.machine.step(event, mark);
+        self.failed = result.is_err();
+        result
     }
 
     /// Gives a device the bytes of its input; a device without an input never looks at them. After `NoMemory` it answers `NoMemory` for good.

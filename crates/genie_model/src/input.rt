@@ -6,27 +6,19 @@ ghost use Rattle.genie_base.specs.declared.semantics.Class.TheVariants.{Copy, Sh
 ghost use Rattle.genie_model.specs.Regions.{fresh, regions_at};
 ghost use Rattle.genie_model.specs.Pending.{names, pending, add_transfer};
 ghost use Rattle.genie_model.specs.Outputs.{give_up};
-ghost use Rattle.genie_model.specs.Inputs.{pages_for, has_pages, reusable, moved_in, weak_buffer, input_of, input, address_or_zero};
+ghost use Rattle.genie_model.specs.Inputs.{pages_for, has_pages, reusable, moved_in, input_of, input};
 ghost use Rattle.genie_model.specs.Refusing.{must_make};
 ghost use Rattle.genie_model.specs.Ending.{cancel, region_of};
+ghost use Rattle.genie_model.specs.Space.{zeros_at_place, add_region};
 ghost use Rattle.genie_model.specs.Targets.{address_of};
 
 use crate::machine::Machine;
 use crate::orphan::Orphan;
 use crate::region::Region;
 use crate::table;
-use crate::transfer::{Call, Target, Transfer, any_names};
+use crate::transfer::{Target, Transfer, address_or_zero};
+use crate::transfers::any_names;
 use genie_base::{Class, NoMemory, RegionState, Reply};
-
-// The address, or 0.
-pub(crate) fn address_or_zero(addr: Option<u32>) -> u32
-    ensures { result ≡ address_or_zero addr }
-{
-    match addr {
-        Some(addr) => addr,
-        None => 0,
-    }
-}
 
 fn any_with_pages(regions: &[Region], number: u32, pages: u32) -> bool
     ensures { result ≡ list_any (has_pages number pages) regions.now }
@@ -69,29 +61,9 @@ impl Machine {
     pub(crate) fn reusable(&self, pid: u32, pages: u32) -> Option<u32>
         ensures { result ≡ reusable self.now pid pages }
     {
-        let process = match table::entry_of(self.processes.as_slice(), pid) {
-            Some(process) => process,
-            None => return None,
-        };
+        let process = table::entry_of(self.processes.as_slice(), pid)?;
         let transfers = self.transfers.as_slice();
-        match first_reusable(process.queue(), process.regions(), transfers, pages) {
-            Some(number) => Some(*number),
-            None => None,
-        }
-    }
-
-    // The call of an input.
-    fn call(&self, pid: u32, class: Class, target: Target, len: u32) -> Call
-        requires { self.now.next < 2 ^ 32 }
-        ensures { result ≡ record { number = self.now.next; owner = pid; class = class; target = target; len = len } }
-    {
-        Call {
-            number: self.next as u32,
-            owner: pid,
-            class,
-            target,
-            len,
-        }
+        first_reusable(process.queue(), process.regions(), transfers, pages).copied()
     }
 
     // A copy input keeps its address.
@@ -131,31 +103,27 @@ impl Machine {
         self.add_transfer(transfer)
     }
 
-    // A move input has a held region of zeros.
-    fn input_move(
+    // An input that has a region of zeros.
+    fn input_into_zeros(
         &mut self,
         pid: u32,
+        class: Class,
+        state: RegionState,
         target: Target,
-        addr: Option<u32>,
         len: u32,
     ) -> Result<(), NoMemory>
         requires few { length self.old.transfers < 64 }
         requires numbered { self.old.next < 2 ^ 32 }
         requires short { len ≤ 64 * self.old.config.page }
         requires room { length (regions_at self.old pid) < 32 }
-        ensures { OnOk result (self.new ≡ (input self.old pid Move (address_of target) addr len).0) }
+        ensures { OnOk result (self.new ≡ add_transfer (add_region self.old pid (zeros_at_place self.old state pid (pages_for self.old len))) (input_of self.old pid class (address_of target) len None (Some (fresh self.old)) 0)) }
     {
         let pages = self.pages_for(len);
-        let region = match self.zeros_at_place(RegionState::Held, pid, pages) {
-            Ok(region) => region,
-            Err(error) => return Err(error),
-        };
-        let call = self.call(pid, Class::Move, target, len);
+        let region = self.zeros_at_place(state, pid, pages)?;
+        let call = self.call(pid, class, target, len);
         let transfer = Transfer::input(self.alloc, call, None, Some(region.number()), 0);
-        match self.add_region(pid, region) {
-            Ok(()) => self.add_transfer(transfer),
-            Err(error) => Err(error),
-        }
+        self.add_region(pid, region)?;
+        self.add_transfer(transfer)
     }
 
     // A weak move input that takes a region of the weak queue.
@@ -176,27 +144,6 @@ impl Machine {
         self.add_transfer(transfer)
     }
 
-    // A weak move input that has a region of zeros.
-    fn input_fresh(&mut self, pid: u32, target: Target, len: u32) -> Result<(), NoMemory>
-        requires few { length self.old.transfers < 64 }
-        requires numbered { self.old.next < 2 ^ 32 }
-        requires short { len ≤ 64 * self.old.config.page }
-        requires room { length (regions_at self.old pid) < 32 }
-        ensures { OnOk result (self.new ≡ add_transfer (weak_buffer self.old pid len None) (input_of self.old pid WeakMove (address_of target) len None (Some (fresh self.old)) 0)) }
-    {
-        let pages = self.pages_for(len);
-        let region = match self.zeros_at_place(RegionState::In, pid, pages) {
-            Ok(region) => region,
-            Err(error) => return Err(error),
-        };
-        let call = self.call(pid, Class::WeakMove, target, len);
-        let transfer = Transfer::input(self.alloc, call, None, Some(region.number()), 0);
-        match self.add_region(pid, region) {
-            Ok(()) => self.add_transfer(transfer),
-            Err(error) => Err(error),
-        }
-    }
-
     // A weak move input.
     fn input_weak_move(
         &mut self,
@@ -214,7 +161,7 @@ impl Machine {
         let pages = self.pages_for(len);
         match self.reusable(pid, pages) {
             Some(number) => self.input_reused(pid, target, len, number),
-            None => self.input_fresh(pid, target, len),
+            None => self.input_into_zeros(pid, Class::WeakMove, RegionState::In, target, len),
         }
     }
 }
@@ -238,7 +185,7 @@ impl Machine {
         match class {
             Class::Copy => self.input_copy(pid, target, addr, len),
             Class::Share => self.input_share(pid, target, addr, len),
-            Class::Move => self.input_move(pid, target, addr, len),
+            Class::Move => self.input_into_zeros(pid, Class::Move, RegionState::Held, target, len),
             Class::WeakMove => self.input_weak_move(pid, target, addr, len),
         }
     }
@@ -247,24 +194,21 @@ impl Machine {
     fn cancel_move(&mut self, transfer: &Transfer) -> Result<(), NoMemory>
         ensures { OnOk result (self.new ≡ give_up self.old Move (region_of self.old transfer.now)) }
     {
-        let orphan = match self.region_of(transfer) {
-            Some(region) => Orphan::of(self.alloc, region),
-            None => return Ok(()),
+        let Some(region) = self.region_of(transfer) else {
+            return Ok(());
         };
-        match orphan {
-            Ok(orphan) => self.remove(orphan),
-            Err(error) => Err(error),
-        }
+        let orphan = Orphan::of(self.alloc, region)?;
+        self.remove(orphan)
     }
 
     // The region of a weak move input that is cancelled is moved out again.
     fn cancel_weak_move(&mut self, transfer: &Transfer) -> Result<(), NoMemory>
         ensures { OnOk result (self.new ≡ give_up self.old WeakMove (region_of self.old transfer.now)) }
     {
-        let number = match self.region_of(transfer) {
-            Some(region) => region.number(),
-            None => return Ok(()),
+        let Some(region) = self.region_of(transfer) else {
+            return Ok(());
         };
+        let number = region.number();
         self.move_out(number)
     }
 
@@ -283,9 +227,9 @@ impl Machine {
         requires { IsSome (pending self.old id) }
         ensures { OnOk result (self.new ≡ (cancel self.old id).0) }
     {
-        match self.take(id) {
-            None => unreachable!(),
-            Some(transfer) => self.after_cancel(&transfer),
-        }
+        let Some(transfer) = self.take(id) else {
+            unreachable!()
+        };
+        self.after_cancel(&transfer)
     }
 }

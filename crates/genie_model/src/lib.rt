@@ -23,5 +23,6 @@ mod table;
 #[cfg(test)]
 mod tests;
 mod transfer;
+mod transfers;
 
 pub use crate::flat::Flat;

@@ -60,10 +60,7 @@ impl Machine {
     pub(crate) fn reach(&self, pid: u32, addr: u32, len: u32) -> Option<&Region>
         ensures { option_copied result ≡ reach_of self.now pid addr len }
     {
-        match table::entry_of(self.processes.as_slice(), pid) {
-            Some(process) => process.reach(self.page, addr, len),
-            None => None,
-        }
+        table::entry_of(self.processes.as_slice(), pid)?.reach(self.page, addr, len)
     }
 
     // The region that a write of a process reaches.
@@ -80,10 +77,7 @@ impl Machine {
     pub(crate) fn region_from(&self, pid: u32, page: u32) -> Option<&Region>
         ensures { option_copied result ≡ region_from self.now pid page }
     {
-        match table::entry_of(self.processes.as_slice(), pid) {
-            Some(process) => process.region_from(page),
-            None => None,
-        }
+        table::entry_of(self.processes.as_slice(), pid)?.region_from(page)
     }
 
     // The region of this number, whoever has it.
@@ -111,10 +105,7 @@ impl Machine {
         ensures { IfOk result (λ bytes. bytes.items ≡ bytes_of self.now number at n) }
     {
         match self.region_numbered(number) {
-            Some(region) => match region.part(at, n).to_vec(self.alloc) {
-                Ok(bytes) => Ok(bytes),
-                Err(_) => Err(NoMemory),
-            },
+            Some(region) => Ok(region.part(at, n).to_vec(self.alloc)?),
             None => self.orphan_part(number, at, n),
         }
     }

@@ -9,7 +9,8 @@ ghost use Rattle.genie_model.specs.State.{Orphan as Left};
 ghost use Rattle.genie_model.specs.Tables.{put_in};
 
 use crate::region::Region;
-use crate::transfer::{Transfer, any_covers, any_names_weakly};
+use crate::transfer::Transfer;
+use crate::transfers::{any_covers, any_names_weakly};
 use genie_base::NoMemory;
 use std::alloc::Global;
 use std::marker::Model;
@@ -61,13 +62,9 @@ fn push_within(part: &mut Vec<u8>, e: &(u32, u8), at: usize, n: usize) -> Result
     ensures { OnOk result (part.new.items ≡ part.old.items ++ byte_within at n e.now) }
 {
     if is_within(at, n, e) {
-        match part.push(e.1) {
-            Ok(()) => Ok(()),
-            Err(_) => Err(NoMemory),
-        }
-    } else {
-        Ok(())
+        part.push(e.1)?;
     }
+    Ok(())
 }
 
 fn part_of(alloc: Global, pairs: &[(u32, u8)], at: usize, n: usize) -> Result<Vec<u8>, NoMemory>
@@ -75,10 +72,7 @@ fn part_of(alloc: Global, pairs: &[(u32, u8)], at: usize, n: usize) -> Result<Ve
 {
     let mut part = Vec::new(alloc);
     for pair in pairs {
-        match push_within(&mut part, pair, at, n) {
-            Ok(()) => {}
-            Err(error) => return Err(error),
-        }
+        push_within(&mut part, pair, at, n)?;
     }
     Ok(part)
 }
@@ -97,10 +91,7 @@ fn placed(alloc: Global, bytes: &[u8]) -> Result<Vec<(u32, u8)>, NoMemory>
 {
     let mut pairs = Vec::new(alloc);
     for (i, byte) in bytes.iter().enumerate() {
-        match pairs.push((i as u32, *byte)) {
-            Ok(()) => {}
-            Err(_) => return Err(NoMemory),
-        }
+        pairs.push((i as u32, *byte))?;
     }
     Ok(pairs)
 }
@@ -110,13 +101,11 @@ impl Orphan {
     pub(crate) fn of(alloc: Global, region: &Region) -> Result<Orphan, NoMemory>
         ensures { IfOk result (λ o. o ≡ as_orphan region.now) }
     {
-        match placed(alloc, region.bytes()) {
-            Ok(bytes) => Ok(Orphan {
-                number: region.number(),
-                bytes,
-            }),
-            Err(error) => Err(error),
-        }
+        let bytes = placed(alloc, region.bytes())?;
+        Ok(Orphan {
+            number: region.number(),
+            bytes,
+        })
     }
 
     pub(crate) fn number(&self) -> u32
@@ -203,20 +192,16 @@ pub(crate) fn insert_orphan(orphans: &mut Vec<Orphan>, orphan: Orphan) -> Result
     ensures { OnOk result (orphans.new.items ≡ put_in (λ q. q.number) orphan orphans.old.items) }
 {
     let at = place_for(orphans.as_slice(), orphan.number());
-    match orphans.insert(at, orphan) {
-        Ok(()) => Ok(()),
-        Err(_) => Err(NoMemory),
-    }
+    orphans.insert(at, orphan)?;
+    Ok(())
 }
 
 // A region is an orphan from now on.
 fn add_orphan(alloc: Global, orphans: &mut Vec<Orphan>, region: &Region) -> Result<(), NoMemory>
     ensures { OnOk result (orphans.new.items ≡ add_orphan region.now orphans.old.items) }
 {
-    match Orphan::of(alloc, region) {
-        Ok(orphan) => insert_orphan(orphans, orphan),
-        Err(error) => Err(error),
-    }
+    let orphan = Orphan::of(alloc, region)?;
+    insert_orphan(orphans, orphan)
 }
 
 // All these regions are orphans from now on.
@@ -228,10 +213,7 @@ pub(crate) fn add_orphans(
     ensures { OnOk result (orphans.new.items ≡ add_orphans regions.now orphans.old.items) }
 {
     for region in regions {
-        match add_orphan(alloc, orphans, region) {
-            Ok(()) => {}
-            Err(error) => return Err(error),
-        }
+        add_orphan(alloc, orphans, region)?;
     }
     Ok(())
 }

@@ -29,9 +29,20 @@ impl Machine {
     pub(crate) fn reached(&self, pid: u32, addr: u32, len: u32) -> Option<u32>
         ensures { result ≡ number_of (reach_of self.now pid addr len) }
     {
-        match self.reach(pid, addr, len) {
-            Some(region) => Some(region.number()),
-            None => None,
+        Some(self.reach(pid, addr, len)?.number())
+    }
+
+    // A call with the next number.
+    pub(crate) fn call(&self, pid: u32, class: Class, target: Target, len: u32) -> Call
+        requires { self.now.next < 2 ^ 32 }
+        ensures { result ≡ record { number = self.now.next; owner = pid; class = class; target = target; len = len } }
+    {
+        Call {
+            number: self.next as u32,
+            owner: pid,
+            class,
+            target,
+            len,
         }
     }
 
@@ -41,13 +52,9 @@ impl Machine {
         requires numbered { self.old.next < 2 ^ 32 }
         ensures { OnOk result (self.new ≡ add_transfer self.old transfer) }
     {
-        match self.transfers.push(transfer) {
-            Ok(()) => {
-                self.next += 1;
-                Ok(())
-            }
-            Err(_) => Err(NoMemory),
-        }
+        self.transfers.push(transfer)?;
+        self.next += 1;
+        Ok(())
     }
 
     // An output, with its bytes of now where it is strong, and else with its region.
@@ -62,22 +69,14 @@ impl Machine {
         requires { self.now.next < 2 ^ 32 }
         ensures { IfOk result (λ t. t ≡ output_of self.now pid class (address_of target) addr len (reach_of self.now pid addr len)) }
     {
-        let call = Call {
-            number: self.next as u32,
-            owner: pid,
-            class,
-            target,
-            len,
-        };
+        let call = self.call(pid, class, target, len);
         let place = self.place(pid, addr, len);
         if !class.is_strong() {
             let region = self.reached(pid, addr, len);
             return Ok(Transfer::output(call, region, place, Vec::new(self.alloc)));
         }
-        match self.bytes(pid, addr, len).to_vec(self.alloc) {
-            Ok(payload) => Ok(Transfer::output(call, None, place, payload)),
-            Err(_) => Err(NoMemory),
-        }
+        let payload = self.bytes(pid, addr, len).to_vec(self.alloc)?;
+        Ok(Transfer::output(call, None, place, payload))
     }
 
     // An output whose region stays as it is.
@@ -93,10 +92,8 @@ impl Machine {
         requires numbered { self.old.next < 2 ^ 32 }
         ensures { OnOk result (self.new ≡ add_transfer self.old (output_of self.old pid class (address_of target) addr len (reach_of self.old pid addr len))) }
     {
-        match self.output_of(pid, class, target, addr, len) {
-            Ok(transfer) => self.add_transfer(transfer),
-            Err(error) => Err(error),
-        }
+        let transfer = self.output_of(pid, class, target, addr, len)?;
+        self.add_transfer(transfer)
     }
 
     // A region is Out, at the end of its process's weak queue.
@@ -111,10 +108,10 @@ impl Machine {
         requires { IsSome (reach_of self.now pid addr len) }
         ensures { IfOk result (λ o. Some o ≡ option_map as_orphan (reach_of self.now pid addr len)) }
     {
-        match self.reach(pid, addr, len) {
-            Some(region) => Orphan::of(self.alloc, region),
-            None => unreachable!(),
-        }
+        let Some(region) = self.reach(pid, addr, len) else {
+            unreachable!()
+        };
+        Orphan::of(self.alloc, region)
     }
 
     // An output that takes its region away.
@@ -124,14 +121,9 @@ impl Machine {
         requires reached { IsSome (reach_of self.old pid addr len) }
         ensures { OnOk result (self.new ≡ (output self.old pid Move (address_of target) addr len).0) }
     {
-        let orphan = match self.reached_orphan(pid, addr, len) {
-            Ok(orphan) => orphan,
-            Err(error) => return Err(error),
-        };
-        match self.add_output(pid, Class::Move, target, addr, len) {
-            Ok(()) => self.remove(orphan),
-            Err(error) => Err(error),
-        }
+        let orphan = self.reached_orphan(pid, addr, len)?;
+        self.add_output(pid, Class::Move, target, addr, len)?;
+        self.remove(orphan)
     }
 
     // An output that leaves its region to later inputs.
@@ -147,14 +139,12 @@ impl Machine {
         requires reached { IsSome (reach_of self.old pid addr len) }
         ensures { OnOk result (self.new ≡ (output self.old pid WeakMove (address_of target) addr len).0) }
     {
-        let number = match self.reach(pid, addr, len) {
-            Some(region) => region.number(),
-            None => unreachable!(),
+        let Some(region) = self.reach(pid, addr, len) else {
+            unreachable!()
         };
-        match self.add_output(pid, Class::WeakMove, target, addr, len) {
-            Ok(()) => self.move_out(number),
-            Err(error) => Err(error),
-        }
+        let number = region.number();
+        self.add_output(pid, Class::WeakMove, target, addr, len)?;
+        self.move_out(number)
     }
 
     // An output.

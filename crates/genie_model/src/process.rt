@@ -115,13 +115,8 @@ fn push_copy(alloc: Global, copies: &mut Vec<Region>, region: &Region) -> Result
     if !region.is_accessible() {
         return Ok(());
     }
-    match region.copy(alloc, region.number()) {
-        Ok(copy) => match copies.push(copy) {
-            Ok(()) => Ok(()),
-            Err(_) => Err(NoMemory),
-        },
-        Err(error) => Err(error),
-    }
+    copies.push(region.copy(alloc, region.number())?)?;
+    Ok(())
 }
 
 // Live copies of the accessible ones.
@@ -131,10 +126,7 @@ fn live_copies(alloc: Global, regions: &[Region]) -> Result<Vec<Region>, NoMemor
 {
     let mut copies = Vec::new(alloc);
     for region in regions {
-        match push_copy(alloc, &mut copies, region) {
-            Ok(()) => {}
-            Err(error) => return Err(error),
-        }
+        push_copy(alloc, &mut copies, region)?;
     }
     Ok(copies)
 }
@@ -200,14 +192,10 @@ impl Process {
         if !self.has_number(number) {
             return Ok(());
         }
-        match self.queue.push(number) {
-            Ok(()) => {
-                let state = Change::State(RegionState::Out);
-                change_in_all(self.regions.as_mut_slice(), number, &state);
-                Ok(())
-            }
-            Err(_) => Err(NoMemory),
-        }
+        self.queue.push(number)?;
+        let state = Change::State(RegionState::Out);
+        change_in_all(self.regions.as_mut_slice(), number, &state);
+        Ok(())
     }
 
     // Region `number` leaves the weak queue, and is In.

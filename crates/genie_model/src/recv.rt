@@ -12,7 +12,7 @@ use crate::datagram::{Datagram, Fate, is_valid_header, is_whole_header, len_in, 
 use crate::device::Device;
 use crate::machine::Machine;
 use crate::table;
-use crate::transfer::{arrived, first_posted, numbered, turn_first};
+use crate::transfers::{arrived, first_posted, numbered, turn_first};
 use genie_base::{NoMemory, Reply};
 use std::alloc::Global;
 
@@ -33,13 +33,9 @@ fn header_taken(alloc: Global, n: u32, v: &Device) -> Result<u32, NoMemory>
 {
     let header = v.header();
     let rest = v.rest();
-    match joined(alloc, header, rest) {
-        Ok(all) => {
-            let missing = size_of_header(all.as_slice()).saturating_sub(header.len());
-            Ok((n as usize).min(rest.len().min(missing)) as u32)
-        }
-        Err(error) => Err(error),
-    }
+    let all = joined(alloc, header, rest)?;
+    let missing = size_of_header(all.as_slice()).saturating_sub(header.len());
+    Ok((n as usize).min(rest.len().min(missing)) as u32)
 }
 
 // How many bytes a step with a budget takes of a datagram's payload.
@@ -81,10 +77,7 @@ impl Machine {
     fn first_posted(&self, dev: u32, port: u16, flow: Option<u32>) -> Option<u32>
         ensures { result ≡ first_posted self.now dev port flow }
     {
-        match first_posted(self.transfers.as_slice(), dev, port, flow) {
-            Some(transfer) => Some(transfer.number()),
-            None => None,
-        }
+        Some(first_posted(self.transfers.as_slice(), dev, port, flow)?.number())
     }
 
     // As many datagrams wait as the device has room for.
@@ -106,15 +99,12 @@ impl Machine {
         ensures { IfOk result (λ reply. deliver self.old g.now truncated k (first_posted self.old dev g.now.port g.now.flow) ≡ (self.new, reply)) }
     {
         let len = g.len();
-        let number = match self.first_posted(dev, g.port(), g.flow()) {
-            Some(number) => number,
-            None => {
-                return Ok(Reply::Dropped {
-                    port: g.port(),
-                    flow: g.flow(),
-                    len,
-                });
-            }
+        let Some(number) = self.first_posted(dev, g.port(), g.flow()) else {
+            return Ok(Reply::Dropped {
+                port: g.port(),
+                flow: g.flow(),
+                len,
+            });
         };
         let bytes = g.bytes();
         let turn = Turn::Gathered {
@@ -122,10 +112,8 @@ impl Machine {
             len,
             bytes,
         };
-        match self.change_transfer(number, &turn) {
-            Ok(()) => Ok(Reply::Got { n: k }),
-            Err(error) => Err(error),
-        }
+        self.change_transfer(number, &turn)?;
+        Ok(Reply::Got { n: k })
     }
 
     // A datagram ends.
@@ -142,10 +130,8 @@ impl Machine {
             Fate::Skipped => Ok(Reply::Got { n: k }),
             Fate::Matched(number) => {
                 let len = g.len();
-                match self.change_transfer(number, &Turn::Arrived { truncated, len }) {
-                    Ok(()) => Ok(Reply::Got { n: k }),
-                    Err(error) => Err(error),
-                }
+                self.change_transfer(number, &Turn::Arrived { truncated, len })?;
+                Ok(Reply::Got { n: k })
             }
             Fate::Gathering => self.deliver(dev, g, truncated, k),
         }
@@ -176,23 +162,20 @@ impl Machine {
         requires { at + length bytes.now < 2 ^ 32 }
         ensures { OnOk result (self.new ≡ land_in self.old at bytes.now (pending self.old number)) }
     {
-        let (number, landing, place, fitting) = match numbered(self.transfers.as_slice(), number) {
-            Some(transfer) => (
-                transfer.number(),
-                transfer.landing(),
-                transfer.offset() as usize + at as usize,
-                transfer.fitting(at, bytes),
-            ),
-            None => return Ok(()),
+        let Some(transfer) = numbered(self.transfers.as_slice(), number) else {
+            return Ok(());
         };
-        if let Some(region) = landing {
+        let number = transfer.number();
+        let place = transfer.offset() as usize + at as usize;
+        let fitting = transfer.fitting(at, bytes);
+        if let Some(region) = transfer.landing() {
             self.put(region, place, fitting);
         }
         self.change_transfer(number, &Turn::Received { at, bytes })
     }
 
     // Payload bytes from place `at` on have come.
-    fn come(&mut self, at: u32, bytes: &[u8], fate: Fate) -> Result<(), NoMemory>
+    fn land(&mut self, at: u32, bytes: &[u8], fate: Fate) -> Result<(), NoMemory>
         requires { at + length bytes.now < 2 ^ 32 }
         ensures { OnOk result (self.new ≡ land self.old at bytes.now fate) }
     {
@@ -217,18 +200,10 @@ impl Machine {
     {
         let mut v = v;
         let mut g = g;
-        let bytes = match v.take_front(self.alloc, b) {
-            Ok(bytes) => bytes,
-            Err(error) => return Err(error),
-        };
-        match self.come(g.moved(), bytes.as_slice(), g.fate()) {
-            Ok(()) => {}
-            Err(error) => return Err(error),
-        }
-        match g.extend(bytes.as_slice()) {
-            Ok(()) => self.go_on(dev, v, g, h + b),
-            Err(error) => Err(error),
-        }
+        let bytes = v.take_front(self.alloc, b)?;
+        self.land(g.moved(), bytes.as_slice(), g.fate())?;
+        g.extend(bytes.as_slice())?;
+        self.go_on(dev, v, g, h + b)
     }
 
     // A step with so much of its budget left.
@@ -269,10 +244,8 @@ impl Machine {
         match self.first_posted(dev, port, flow) {
             Some(number) => {
                 let g = Datagram::new(self.alloc, header, Fate::Matched(number));
-                match self.change_transfer(number, &Turn::Moving) {
-                    Ok(()) => self.receive_payload(dev, left, v, g, h),
-                    Err(error) => Err(error),
-                }
+                self.change_transfer(number, &Turn::Moving)?;
+                self.receive_payload(dev, left, v, g, h)
             }
             None => {
                 v.set_present(if len == 0 { None } else { Some(g) });
@@ -341,18 +314,9 @@ impl Machine {
         ensures { IfOk result (λ reply. take_header self.old dev n v h ≡ (self.new, reply)) }
     {
         let mut v = v;
-        let bytes = match v.take_front(self.alloc, h) {
-            Ok(bytes) => bytes,
-            Err(error) => return Err(error),
-        };
-        let header = match joined(self.alloc, v.header(), bytes.as_slice()) {
-            Ok(header) => header,
-            Err(error) => return Err(error),
-        };
-        match v.extend_header(bytes.as_slice()) {
-            Ok(()) => {}
-            Err(error) => return Err(error),
-        }
+        let bytes = v.take_front(self.alloc, h)?;
+        let header = joined(self.alloc, v.header(), bytes.as_slice())?;
+        v.extend_header(bytes.as_slice())?;
         if is_whole_header(header.as_slice()) {
             return self.read_header(dev, n - h, v, header.as_slice(), h);
         }
@@ -364,14 +328,11 @@ impl Machine {
     fn receive_record(&mut self, dev: u32, n: u32, v: Device) -> Result<Reply, NoMemory>
         ensures { IfOk result (λ reply. receive_record self.old dev n v v.present ≡ (self.new, reply)) }
     {
-        match v.present_copy(self.alloc) {
-            Err(error) => Err(error),
-            Ok(Some(g)) => self.receive_payload(dev, n, v, g, 0),
-            Ok(None) => match header_taken(self.alloc, n, &v) {
-                Ok(h) => self.take_header(dev, n, v, h),
-                Err(error) => Err(error),
-            },
+        if let Some(g) = v.present_copy(self.alloc)? {
+            return self.receive_payload(dev, n, v, g, 0);
         }
+        let h = header_taken(self.alloc, n, &v)?;
+        self.take_header(dev, n, v, h)
     }
 
     // A copy of a device.
@@ -380,10 +341,7 @@ impl Machine {
     {
         match table::entry_of(self.devices.as_slice(), dev) {
             None => Ok(None),
-            Some(device) => match device.copy(self.alloc) {
-                Ok(copy) => Ok(Some(copy)),
-                Err(error) => Err(error),
-            },
+            Some(device) => Ok(Some(device.copy(self.alloc)?)),
         }
     }
 
@@ -404,10 +362,9 @@ impl Machine {
     pub(crate) fn recv(&mut self, dev: u32, n: u32) -> Result<Reply, NoMemory>
         ensures { IfOk result (λ reply. recv self.old dev n ≡ (self.new, reply)) }
     {
-        match self.device(dev) {
-            Err(error) => Err(error),
-            Ok(None) => Ok(Reply::End),
-            Ok(Some(v)) => self.receive(dev, n, v),
+        match self.device(dev)? {
+            None => Ok(Reply::End),
+            Some(v) => self.receive(dev, n, v),
         }
     }
 }
@@ -442,14 +399,8 @@ impl Machine {
         ensures { IfOk result (λ b. b ≡ stays_behind_header self.now dev k v h) }
     {
         let mut v = v;
-        let bytes = match v.take_front(self.alloc, h) {
-            Ok(bytes) => bytes,
-            Err(error) => return Err(error),
-        };
-        let header = match joined(self.alloc, v.header(), bytes.as_slice()) {
-            Ok(header) => header,
-            Err(error) => return Err(error),
-        };
+        let bytes = v.take_front(self.alloc, h)?;
+        let header = joined(self.alloc, v.header(), bytes.as_slice())?;
         let header = header.as_slice();
         if !is_whole_header(header) {
             return Ok(h == k);
@@ -464,17 +415,12 @@ impl Machine {
     fn stays_inside(&self, dev: u32, k: u32, v: Device) -> Result<bool, NoMemory>
         ensures { IfOk result (λ b. b ≡ stays_inside self.now dev k v v.present) }
     {
-        match v.present_copy(self.alloc) {
-            Err(error) => Err(error),
-            Ok(Some(g)) => {
-                let left = g.len().saturating_sub(g.moved());
-                Ok(stays_in_payload(v.rest(), left, k))
-            }
-            Ok(None) => match header_taken(self.alloc, k, &v) {
-                Ok(h) => self.stays_behind_header(dev, k, v, h),
-                Err(error) => Err(error),
-            },
+        if let Some(g) = v.present_copy(self.alloc)? {
+            let left = g.len().saturating_sub(g.moved());
+            return Ok(stays_in_payload(v.rest(), left, k));
         }
+        let h = header_taken(self.alloc, k, &v)?;
+        self.stays_behind_header(dev, k, v, h)
     }
 
     fn may_fail_at(&self, dev: u32, k: u32, v: Device) -> Result<bool, NoMemory>
@@ -496,10 +442,9 @@ impl Machine {
     pub(crate) fn may_fail_receiving(&self, dev: u32, k: u32) -> Result<bool, NoMemory>
         ensures { IfOk result (λ b. b ≡ may_fail_receiving self.now dev k) }
     {
-        match self.device(dev) {
-            Err(error) => Err(error),
-            Ok(None) => Ok(false),
-            Ok(Some(v)) => self.may_fail_at(dev, k, v),
+        match self.device(dev)? {
+            None => Ok(false),
+            Some(v) => self.may_fail_at(dev, k, v),
         }
     }
 }

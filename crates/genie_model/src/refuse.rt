@@ -8,11 +8,11 @@ ghost use Rattle.genie_model.specs.Pending.{wired};
 ghost use Rattle.genie_model.specs.Refusing.{refuse, causes, first_cause, new_region_causes, accessible_pages, over_backing, must_stay_writable, has_output, has_input, may_move, must_make, call_causes, app_causes, sys_causes, buffer_causes, target_causes, most_of, frames_to_wire};
 ghost use Rattle.genie_model.specs.Tables.{entry};
 
-use crate::input::address_or_zero;
 use crate::machine::Machine;
 use crate::region::Region;
 use crate::table;
-use crate::transfer::{any_weak_input_into, cost_of_span, numbered, wired};
+use crate::transfer::{address_or_zero, cost_of_span};
+use crate::transfers::{any_weak_input_into, numbered, wired};
 use genie_base::{Class, Direction, Event, Refusal, Semantics, span};
 
 /// The most regions that a process may have.
@@ -26,20 +26,14 @@ impl Machine {
     fn has_output(&self, dev: u32) -> bool
         ensures { result ≡ has_output (entry self.now.config.devices dev) }
     {
-        match table::entry_of(&self.config.devices, dev) {
-            Some(device) => device.output.is_some(),
-            None => false,
-        }
+        table::entry_of(&self.config.devices, dev).is_some_and(|device| device.output.is_some())
     }
 
     // Whether there is such a device, with an input.
     fn has_input(&self, dev: u32) -> bool
         ensures { result ≡ has_input (entry self.now.config.devices dev) }
     {
-        match table::entry_of(&self.config.devices, dev) {
-            Some(device) => device.input.is_some(),
-            None => false,
-        }
+        table::entry_of(&self.config.devices, dev).is_some_and(|device| device.input.is_some())
     }
 
     // The longest datagram of a device, in bytes.
@@ -289,10 +283,8 @@ impl Machine {
     fn may_move(&self, pid: u32, addr: u32, len: u32) -> bool
         ensures { result ≡ may_move (reach_of self.now pid addr len) }
     {
-        match self.reach(pid, addr, len) {
-            Some(region) => region.is_sys() && region.is_live(),
-            None => false,
-        }
+        self.reach(pid, addr, len)
+            .is_some_and(|region| region.is_sys() && region.is_live())
     }
 
     fn refuse_output(

@@ -75,10 +75,7 @@ impl Region {
     pub(crate) fn copy(&self, alloc: Global, number: u32) -> Result<Region, NoMemory>
         ensures { IfOk result (λ r. r ≡ record self.now { number = number; state = Live }) }
     {
-        let bytes = match self.bytes.as_slice().to_vec(alloc) {
-            Ok(bytes) => bytes,
-            Err(_) => return Err(NoMemory),
-        };
+        let bytes = self.bytes.as_slice().to_vec(alloc)?;
         Ok(Region {
             number,
             start: self.start,
@@ -130,28 +127,19 @@ impl Region {
     pub(crate) fn is_accessible(&self) -> bool
         ensures { result ≡ is_accessible self.now.state }
     {
-        match self.state {
-            RegionState::Live | RegionState::Out | RegionState::In => true,
-            RegionState::Held => false,
-        }
+        !matches!(self.state, RegionState::Held)
     }
 
     pub(crate) fn is_sys(&self) -> bool
         ensures { result ≡ is_sys self.now.area }
     {
-        match self.area {
-            Area::Sys => true,
-            Area::App => false,
-        }
+        matches!(self.area, Area::Sys)
     }
 
     pub(crate) fn is_live(&self) -> bool
         ensures { result ≡ is_live self.now.state }
     {
-        match self.state {
-            RegionState::Live => true,
-            RegionState::Out | RegionState::In | RegionState::Held => false,
-        }
+        matches!(self.state, RegionState::Live)
     }
 
     // Its pages, if it is accessible, else 0.

@@ -7,7 +7,8 @@ ghost use Rattle.genie_model.specs.Sending.{send, send_count, stage_count, next_
 
 use crate::machine::Machine;
 use crate::table;
-use crate::transfer::{Transfer, first_queued, send_first, stage_first};
+use crate::transfer::Transfer;
+use crate::transfers::{first_queued, send_first, stage_first};
 use genie_base::{NoMemory, Reply, part};
 
 impl Machine {
@@ -15,10 +16,7 @@ impl Machine {
     fn is_outboard_at(&self, dev: u32) -> bool
         ensures { result ≡ is_outboard_at self.now dev }
     {
-        match table::entry_of(self.devices.as_slice(), dev) {
-            Some(device) => device.is_outboard(),
-            None => false,
-        }
+        table::entry_of(self.devices.as_slice(), dev).is_some_and(|device| device.is_outboard())
     }
 
     // The `n` bytes from place `at` on of the region or orphan that a transfer names.
@@ -36,10 +34,7 @@ impl Machine {
         ensures { IfOk result (λ bytes. bytes.items ≡ payload_of self.now transfer.now) }
     {
         if transfer.is_strong() || self.is_outboard_at(transfer.device()) {
-            match transfer.payload().to_vec(self.alloc) {
-                Ok(bytes) => Ok(bytes),
-                Err(_) => Err(NoMemory),
-            }
+            Ok(transfer.payload().to_vec(self.alloc)?)
         } else {
             self.named_bytes(
                 transfer.region(),
@@ -49,14 +44,19 @@ impl Machine {
         }
     }
 
+    // Whether an output has bytes to stage on a device.
+    fn must_stage(&self, dev: u32, transfer: &Transfer) -> bool
+        ensures { result ≡ must_stage self.now dev transfer.now }
+    {
+        self.is_outboard_at(dev) && transfer.staged() < transfer.len()
+    }
+
     // Whether the first output that waits for a device has bytes to stage, or `None` where no output waits.
-    fn must_stage(&self, dev: u32) -> Option<bool>
+    fn must_stage_first(&self, dev: u32) -> Option<bool>
         ensures { result ≡ option_map (must_stage self.now dev) (first_queued self.now dev) }
     {
-        match first_queued(self.transfers.as_slice(), dev) {
-            None => None,
-            Some(transfer) => Some(self.is_outboard_at(dev) && transfer.staged() < transfer.len()),
-        }
+        let transfer = first_queued(self.transfers.as_slice(), dev)?;
+        Some(self.must_stage(dev, transfer))
     }
 
     // How many bytes a send step of a device sends, or 0 where no output waits for it.
@@ -83,32 +83,21 @@ impl Machine {
     fn next_part(&self, dev: u32, k: u32) -> Result<Vec<u8>, NoMemory>
         ensures { IfOk result (λ bytes. (t : Pending) → first_queued self.now dev ≡ Some t → bytes.items ≡ next_part self.now k t) }
     {
-        let transfer = match first_queued(self.transfers.as_slice(), dev) {
-            None => return Ok(Vec::new(self.alloc)),
-            Some(transfer) => transfer,
+        let Some(transfer) = first_queued(self.transfers.as_slice(), dev) else {
+            return Ok(Vec::new(self.alloc));
         };
-        let payload = match self.payload_of(transfer) {
-            Ok(payload) => payload,
-            Err(error) => return Err(error),
-        };
-        let record = match transfer.record(self.alloc, payload.as_slice()) {
-            Ok(record) => record,
-            Err(error) => return Err(error),
-        };
+        let payload = self.payload_of(transfer)?;
+        let record = transfer.record(self.alloc, payload.as_slice())?;
         let bytes = part(record.as_slice(), transfer.moved() as usize, k as usize);
-        match bytes.to_vec(self.alloc) {
-            Ok(bytes) => Ok(bytes),
-            Err(_) => Err(NoMemory),
-        }
+        Ok(bytes.to_vec(self.alloc)?)
     }
 
     // The next `k` bytes that the first output that waits for a device stages.
     fn staged_now(&self, dev: u32, k: u32) -> Result<Vec<u8>, NoMemory>
         ensures { IfOk result (λ bytes. (t : Pending) → first_queued self.now dev ≡ Some t → bytes.items ≡ staged_now self.now k t) }
     {
-        let transfer = match first_queued(self.transfers.as_slice(), dev) {
-            None => return Ok(Vec::new(self.alloc)),
-            Some(transfer) => transfer,
+        let Some(transfer) = first_queued(self.transfers.as_slice(), dev) else {
+            return Ok(Vec::new(self.alloc));
         };
         if transfer.is_strong() {
             return Ok(Vec::new(self.alloc));
@@ -123,18 +112,9 @@ impl Machine {
         ensures { IfOk result (λ reply. send self.old dev n ≡ (self.new, reply)) }
     {
         let k = self.stage_count(dev, n);
-        match self.staged_now(dev, k) {
-            Err(error) => Err(error),
-            Ok(bytes) => match stage_first(
-                self.transfers.as_mut_slice(),
-                dev,
-                k,
-                bytes.as_slice(),
-            ) {
-                Ok(()) => Ok(Reply::Staged { n: k }),
-                Err(error) => Err(error),
-            },
-        }
+        let bytes = self.staged_now(dev, k)?;
+        stage_first(self.transfers.as_mut_slice(), dev, k, bytes.as_slice())?;
+        Ok(Reply::Staged { n: k })
     }
 
     // Sends the next bytes of the first output that waits for a device.
@@ -143,24 +123,17 @@ impl Machine {
         ensures { IfOk result (λ reply. send self.old dev n ≡ (self.new, reply)) }
     {
         let k = self.send_count(dev, n);
-        let bytes = match self.next_part(dev, k) {
-            Ok(bytes) => bytes,
-            Err(error) => return Err(error),
-        };
-        match table::send_on(&mut self.devices, dev, bytes.as_slice()) {
-            Err(error) => Err(error),
-            Ok(()) => {
-                send_first(self.transfers.as_mut_slice(), dev, u64::from(k));
-                Ok(Reply::Sent { n: k })
-            }
-        }
+        let bytes = self.next_part(dev, k)?;
+        table::send_on(&mut self.devices, dev, bytes.as_slice())?;
+        send_first(self.transfers.as_mut_slice(), dev, u64::from(k));
+        Ok(Reply::Sent { n: k })
     }
 
     // A send step of a device with a budget.
     pub(crate) fn send(&mut self, dev: u32, n: u32) -> Result<Reply, NoMemory>
         ensures { IfOk result (λ reply. send self.old dev n ≡ (self.new, reply)) }
     {
-        match self.must_stage(dev) {
+        match self.must_stage_first(dev) {
             None => Ok(Reply::Idle),
             Some(true) => self.stage(dev, n),
             Some(false) => self.send_next(dev, n),
@@ -174,8 +147,7 @@ impl Machine {
         match first_queued(self.transfers.as_slice(), dev) {
             None => false,
             Some(transfer) => {
-                let staging = self.is_outboard_at(dev) && transfer.staged() < transfer.len();
-                !staging && (k == 0 || u64::from(k) < transfer.unsent())
+                !self.must_stage(dev, transfer) && (k == 0 || u64::from(k) < transfer.unsent())
             }
         }
     }

@@ -11,7 +11,7 @@ use crate::orphan::{Orphan, add_orphans, any_orphan, insert_orphan};
 use crate::process::Process;
 use crate::region::{Purpose, Region};
 use crate::table;
-use crate::transfer::disown_all;
+use crate::transfers::disown_all;
 use genie_base::{Area, NoMemory, RegionState, Reply};
 
 /// More numbers than regions and orphans can use.
@@ -79,10 +79,8 @@ impl Machine {
             start,
             pages,
         };
-        match self.zeros(purpose) {
-            Ok(region) => self.add_region(pid, region),
-            Err(error) => Err(error),
-        }
+        let region = self.zeros(purpose)?;
+        self.add_region(pid, region)
     }
 
     // The lowest start in the system area at which so many pages of a process are free.
@@ -107,10 +105,7 @@ impl Machine {
         requires { pages ≤ 64 }
         ensures { IfOk result (λ r. r ≡ zeros_at_place self.now state pid pages) }
     {
-        let start = match self.place_of(pid, pages) {
-            Some(start) => start,
-            None => 0,
-        };
+        let start = self.place_of(pid, pages).unwrap_or(0);
         let purpose = Purpose {
             area: Area::Sys,
             state,
@@ -126,15 +121,10 @@ impl Machine {
         requires few { length (regions_at self.old pid) < 32 }
         ensures { IfOk result (λ reply. alloc self.old pid pages ≡ (self.new, reply)) }
     {
-        let region = match self.zeros_at_place(RegionState::Live, pid, pages) {
-            Ok(region) => region,
-            Err(error) => return Err(error),
-        };
+        let region = self.zeros_at_place(RegionState::Live, pid, pages)?;
         let addr = self.address_of(&region);
-        match self.add_region(pid, region) {
-            Ok(()) => Ok(Reply::At { addr }),
-            Err(error) => Err(error),
-        }
+        self.add_region(pid, region)?;
+        Ok(Reply::At { addr })
     }
 
     // A region, of which this is left, goes.
@@ -149,24 +139,21 @@ impl Machine {
     pub(crate) fn unmap(&mut self, pid: u32, page: u32) -> Result<(), NoMemory>
         ensures { OnOk result (self.new ≡ (unmap self.old pid page).0) }
     {
-        let orphan = match self.region_from(pid, page) {
-            Some(region) => Orphan::of(self.alloc, region),
-            None => return Ok(()),
+        let Some(region) = self.region_from(pid, page) else {
+            return Ok(());
         };
-        match orphan {
-            Ok(orphan) => self.remove(orphan),
-            Err(error) => Err(error),
-        }
+        let orphan = Orphan::of(self.alloc, region)?;
+        self.remove(orphan)
     }
 
     // Whether the region that starts at a page may be written from now on.
     pub(crate) fn protect(&mut self, pid: u32, page: u32, writable: bool)
         ensures { self.new ≡ (protect self.old pid page writable).0 }
     {
-        let number = match self.region_from(pid, page) {
-            Some(region) => region.number(),
-            None => return,
+        let Some(region) = self.region_from(pid, page) else {
+            return;
         };
+        let number = region.number();
         self.change_region(number, &Change::Mode(writable));
     }
 
@@ -187,10 +174,8 @@ impl Machine {
         ensures { OnOk result (self.new ≡ add_region self.old pid (copy_of self.old region.now)) }
     {
         let number = self.fresh();
-        match region.copy(self.alloc, number) {
-            Ok(copy) => self.add_region(pid, copy),
-            Err(error) => Err(error),
-        }
+        let copy = region.copy(self.alloc, number)?;
+        self.add_region(pid, copy)
     }
 
     // Gives a process copies of regions.
@@ -200,10 +185,7 @@ impl Machine {
         ensures { OnOk result (self.new ≡ add_copies self.old pid regions.now) }
     {
         for region in regions {
-            match self.add_copy(pid, region) {
-                Ok(()) => {}
-                Err(error) => return Err(error),
-            }
+            self.add_copy(pid, region)?;
         }
         Ok(())
     }
@@ -212,10 +194,7 @@ impl Machine {
     pub(crate) fn fork(&mut self, parent: u32, child: u32) -> Result<(), NoMemory>
         ensures { OnOk result (self.new ≡ (fork self.old parent child).0) }
     {
-        let copies = match self.copies(parent) {
-            Ok(copies) => copies,
-            Err(error) => return Err(error),
-        };
+        let copies = self.copies(parent)?;
         self.spawn(child);
         self.add_copies(child, copies.as_slice())
     }
@@ -234,13 +213,9 @@ impl Machine {
     pub(crate) fn exit(&mut self, pid: u32) -> Result<(), NoMemory>
         ensures { OnOk result (self.new ≡ (exit self.old pid).0) }
     {
-        match self.abandon(pid) {
-            Ok(()) => {
-                disown_all(&mut self.transfers, pid);
-                Ok(())
-            }
-            Err(error) => Err(error),
-        }
+        self.abandon(pid)?;
+        disown_all(&mut self.transfers, pid);
+        Ok(())
     }
 
     // The bytes that an access reaches.
@@ -258,10 +233,11 @@ impl Machine {
         requires { length bytes.now < 2 ^ 32 }
         ensures { self.new ≡ (write self.old pid addr bytes.now).0 }
     {
-        let (number, place) = match self.reach(pid, addr, bytes.len() as u32) {
-            Some(region) => (region.number(), region.place_of(self.page, addr)),
-            None => return,
+        let Some(region) = self.reach(pid, addr, bytes.len() as u32) else {
+            return;
         };
+        let number = region.number();
+        let place = region.place_of(self.page, addr);
         self.put(number, place, bytes);
     }
 }

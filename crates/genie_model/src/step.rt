@@ -1,16 +1,18 @@
 //! One step of the plain machine.
-ghost use Rattle.std.specs.Prelude.{◌≡◌, ◌≤◌, None, true, IfOk, OnOk};
-ghost use Rattle.genie_base.specs.declared.event.Event.TheVariants as event;
+ghost use Rattle.std.specs.Prelude.{◌≡◌, ◌*◌, ◌<◌, ◌≤◌, ◌^◌, None, true, IfOk, OnOk, IsSome, IsTrue, length};
 ghost use Rattle.genie_base.specs.declared.reply.Mark.TheVariants as mark;
 ghost use Rattle.genie_model.specs.Flat.{HasNumber};
-ghost use Rattle.genie_model.specs.Refusing.{refuse};
-ghost use Rattle.genie_model.specs.Regions.{reach_of};
+ghost use Rattle.genie_model.specs.Inputs.{input};
+ghost use Rattle.genie_model.specs.Outputs.{output};
+ghost use Rattle.genie_model.specs.Refusing.{refuse, must_make};
+ghost use Rattle.genie_model.specs.Regions.{reach_of, regions_at};
 ghost use Rattle.genie_model.specs.Space.{bytes_reached};
 ghost use Rattle.genie_model.specs.Step.{step, marked, perform, accept, failed, may_fail, with_budget, uses_store};
+ghost use Rattle.genie_model.specs.Targets.{address_of};
 
 use crate::machine::Machine;
 use crate::transfer::Target;
-use genie_base::{Event, Mark, NoMemory, PageBytes, Reply};
+use genie_base::{Class, Event, Mark, NoMemory, PageBytes, Reply};
 
 // Whether the store may fail in an event.
 fn uses_store(event: &Event) -> bool
@@ -38,6 +40,45 @@ impl Machine {
         PageBytes::from_slice(self.bytes(pid, addr, len))
     }
 
+    // An output, whose number is answered.
+    fn perform_output(
+        &mut self,
+        pid: u32,
+        class: Class,
+        target: Target,
+        addr: u32,
+        len: u32,
+    ) -> Result<Reply, NoMemory>
+        requires few { length self.old.transfers < 64 }
+        requires numbered { self.old.next < 2 ^ 32 }
+        requires reached { IsSome (reach_of self.old pid addr len) }
+        ensures { IfOk result (λ reply. output self.old pid class (address_of target) addr len ≡ (self.new, reply)) }
+    {
+        let id = self.next as u32;
+        self.output(pid, class, target, addr, len)?;
+        Ok(Reply::Id { id })
+    }
+
+    // An input, whose number is answered.
+    fn perform_input(
+        &mut self,
+        pid: u32,
+        class: Class,
+        target: Target,
+        addr: Option<u32>,
+        len: u32,
+    ) -> Result<Reply, NoMemory>
+        requires few { length self.old.transfers < 64 }
+        requires numbered { self.old.next < 2 ^ 32 }
+        requires short { len ≤ 64 * self.old.config.page }
+        requires room { IsTrue (must_make self.old pid class len) → length (regions_at self.old pid) < 32 }
+        ensures { IfOk result (λ reply. input self.old pid class (address_of target) addr len ≡ (self.new, reply)) }
+    {
+        let id = self.next as u32;
+        self.input(pid, class, target, addr, len)?;
+        Ok(Reply::Id { id })
+    }
+
     // What an accepted event does, where nothing fails.
     fn perform(&mut self, event: &Event) -> Result<Reply, NoMemory>
         requires accepted { refuse self.old event.now ≡ None }
@@ -45,40 +86,21 @@ impl Machine {
         ensures { IfOk result (λ reply. perform self.old event.now ≡ (self.new, reply)) }
     {
         match event {
-            Event::Spawn { pid } => {
-                self.spawn(*pid);
-                Ok(Reply::Okay)
-            }
-            Event::Map { pid, page, pages } => match self.map(*pid, *page, *pages) {
-                Ok(()) => Ok(Reply::Okay),
-                Err(error) => Err(error),
-            },
-            Event::Fork { parent, child } => match self.fork(*parent, *child) {
-                Ok(()) => Ok(Reply::Okay),
-                Err(error) => Err(error),
-            },
-            Event::Exit { pid } => match self.exit(*pid) {
-                Ok(()) => Ok(Reply::Okay),
-                Err(error) => Err(error),
-            },
-            Event::Alloc { pid, pages } => self.alloc(*pid, *pages),
-            Event::Unmap { pid, page } => match self.unmap(*pid, *page) {
-                Ok(()) => Ok(Reply::Okay),
-                Err(error) => Err(error),
-            },
+            Event::Spawn { pid } => self.spawn(*pid),
+            Event::Map { pid, page, pages } => self.map(*pid, *page, *pages)?,
+            Event::Fork { parent, child } => self.fork(*parent, *child)?,
+            Event::Exit { pid } => self.exit(*pid)?,
+            Event::Alloc { pid, pages } => return self.alloc(*pid, *pages),
+            Event::Unmap { pid, page } => self.unmap(*pid, *page)?,
             Event::Protect {
                 pid,
                 page,
                 writable,
-            } => {
-                self.protect(*pid, *page, *writable);
-                Ok(Reply::Okay)
+            } => self.protect(*pid, *page, *writable),
+            Event::Read { pid, addr, len } => {
+                return Ok(Reply::Bytes(self.read(*pid, *addr, *len)));
             }
-            Event::Read { pid, addr, len } => Ok(Reply::Bytes(self.read(*pid, *addr, *len))),
-            Event::Write { pid, addr, bytes } => {
-                self.write(*pid, *addr, bytes.as_slice());
-                Ok(Reply::Okay)
-            }
+            Event::Write { pid, addr, bytes } => self.write(*pid, *addr, bytes.as_slice()),
             Event::Output {
                 pid,
                 sem,
@@ -88,16 +110,8 @@ impl Machine {
                 addr,
                 len,
             } => {
-                let target = Target {
-                    device: *dev,
-                    port: *port,
-                    flow: *flow,
-                };
-                let id = self.next as u32;
-                match self.output(*pid, sem.class(), target, *addr, *len) {
-                    Ok(()) => Ok(Reply::Id { id }),
-                    Err(error) => Err(error),
-                }
+                let target = Target::new(*dev, *port, *flow);
+                return self.perform_output(*pid, sem.class(), target, *addr, *len);
             }
             Event::Input {
                 pid,
@@ -108,26 +122,16 @@ impl Machine {
                 addr,
                 len,
             } => {
-                let target = Target {
-                    device: *dev,
-                    port: *port,
-                    flow: *flow,
-                };
-                let id = self.next as u32;
-                match self.input(*pid, sem.class(), target, *addr, *len) {
-                    Ok(()) => Ok(Reply::Id { id }),
-                    Err(error) => Err(error),
-                }
+                let target = Target::new(*dev, *port, *flow);
+                return self.perform_input(*pid, sem.class(), target, *addr, *len);
             }
-            Event::Send { dev, len } => self.send(*dev, *len),
-            Event::Recv { dev, len } => self.recv(*dev, *len),
-            Event::Finish { id } => Ok(self.finish(*id)),
-            Event::Cancel { id } => match self.cancel(*id) {
-                Ok(()) => Ok(Reply::Okay),
-                Err(error) => Err(error),
-            },
-            Event::Pageout { .. } => Ok(Reply::Okay),
+            Event::Send { dev, len } => return self.send(*dev, *len),
+            Event::Recv { dev, len } => return self.recv(*dev, *len),
+            Event::Finish { id } => return Ok(self.finish(*id)),
+            Event::Cancel { id } => self.cancel(*id)?,
+            Event::Pageout { .. } => {}
         }
+        Ok(Reply::Okay)
     }
 }
 
@@ -138,13 +142,9 @@ impl Machine {
         requires numbered { HasNumber self.old }
         ensures { IfOk result (λ reply. accept self.old event.now ≡ (self.new, reply)) }
     {
-        match self.perform(event) {
-            Ok(reply) => {
-                self.tidy();
-                Ok(reply)
-            }
-            Err(error) => Err(error),
-        }
+        let reply = self.perform(event)?;
+        self.tidy();
+        Ok(reply)
     }
 
     // Whether the host of a device may fail after `k` bytes of a step.
@@ -158,41 +158,18 @@ impl Machine {
         }
     }
 
-    // A send step with a smaller budget.
-    fn send_less(&mut self, dev: u32, k: u32) -> Result<(), NoMemory>
-        ensures { OnOk result (self.new ≡ (accept self.old (event.Send dev k)).0) }
-    {
-        match self.send(dev, k) {
-            Ok(_) => {
-                self.tidy();
-                Ok(())
-            }
-            Err(error) => Err(error),
-        }
-    }
-
-    // A receive step with a smaller budget.
-    fn recv_less(&mut self, dev: u32, k: u32) -> Result<(), NoMemory>
-        ensures { OnOk result (self.new ≡ (accept self.old (event.Recv dev k)).0) }
-    {
-        match self.recv(dev, k) {
-            Ok(_) => {
-                self.tidy();
-                Ok(())
-            }
-            Err(error) => Err(error),
-        }
-    }
-
+    // A send or receive step with a smaller budget.
     fn step_less(&mut self, event: &Event, k: u32) -> Result<(), NoMemory>
         requires { may_fail self.old event.now k ≡ true }
         ensures { OnOk result (self.new ≡ (accept self.old (with_budget event.now k)).0) }
     {
         match event {
-            Event::Send { dev, .. } => self.send_less(*dev, k),
-            Event::Recv { dev, .. } => self.recv_less(*dev, k),
+            Event::Send { dev, .. } => self.send(*dev, k)?,
+            Event::Recv { dev, .. } => self.recv(*dev, k)?,
             _ => unreachable!(),
-        }
+        };
+        self.tidy();
+        Ok(())
     }
 
     // A step whose host failed after `k` bytes.
@@ -203,10 +180,8 @@ impl Machine {
         if k == 0 {
             return Ok(Reply::Fault { n: k });
         }
-        match self.step_less(event, k) {
-            Ok(()) => Ok(Reply::Fault { n: k }),
-            Err(error) => Err(error),
-        }
+        self.step_less(event, k)?;
+        Ok(Reply::Fault { n: k })
     }
 
     // An accepted event under a mark of a device's host. One that doesn't fit counts as none.
@@ -215,10 +190,10 @@ impl Machine {
         requires numbered { HasNumber self.old }
         ensures { IfOk result (λ reply. marked self.old event.now (mark.Device k) ≡ (self.new, reply)) }
     {
-        match self.may_fail(event, k) {
-            Ok(true) => self.fail(event, k),
-            Ok(false) => self.accept(event),
-            Err(error) => Err(error),
+        if self.may_fail(event, k)? {
+            self.fail(event, k)
+        } else {
+            self.accept(event)
         }
     }
 

@@ -152,10 +152,7 @@ fn move_out_in_each(processes: &mut [Option<Process>], number: u32) -> Result<()
     ensures { OnOk result (processes.new ≡ map (change_process (moved_out_of number)) processes.old) }
 {
     for process in processes.iter_mut() {
-        match move_out_in(process, number) {
-            Ok(()) => {}
-            Err(error) => return Err(error),
-        }
+        move_out_in(process, number)?;
     }
     Ok(())
 }

@@ -1,27 +1,23 @@
 //! A pending transfer.
-ghost use Rattle.std.specs.Prelude.{◌≡◌, ◌+◌, ◌-◌, ◌*◌, ◌<◌, ◌≤◌, ◌^◌, [], Some, None, length, map, filter, not, find, take, count_by, sum_by, IfOk, OnOk};
-ghost use Rattle.std.specs.List.{list_any};
-ghost use Rattle.std.specs.Option.{option_copied};
+ghost use Rattle.std.specs.Prelude.{◌≡◌, ◌+◌, ◌-◌, ◌<◌, ◌≤◌, ◌^◌, [], Some, None, length, IfOk, OnOk};
 ghost use Rattle.genie_base.specs.Posted.{meets_flow};
 ghost use Rattle.genie_base.specs.Records.{header_len};
 ghost use Rattle.genie_base.specs.Transfers.{is_strong};
 ghost use Rattle.genie_base.specs.declared.reply.Note.TheVariants.{Whole};
 ghost use Rattle.genie_base.specs.Counts.{cost};
 ghost use Rattle.genie_base.specs.declared.semantics.Direction.TheVariants.{Outward, Inward};
-ghost use Rattle.genie_model.specs.State.{Transfer as Pending};
 ghost use Rattle.genie_model.specs.declared.phase.Phase.TheVariants.{Queued, Posted};
-ghost use Rattle.genie_model.specs.Pending.{is_ready, is_queued, is_posted, is_just, awaits, has_arrived, is_numbered, waits_for, touched, cost_of, names, names_weakly, covers};
+ghost use Rattle.genie_model.specs.Pending.{is_ready, is_queued, is_inward, is_posted, is_just, awaits, has_arrived, waits_for, touched, cost_of, names, names_weakly, covers};
 ghost use Rattle.genie_model.specs.Inputs.{address_or_zero};
 ghost use Rattle.genie_model.specs.Space.{disowned, is_posted_by};
 ghost use Rattle.genie_model.specs.Refusing.{is_weak_input_into};
 ghost use Rattle.genie_model.specs.Sending.{record_of, unsent, after_sending, after_staging};
 ghost use Rattle.genie_model.specs.Changes.{turn_of, IsSmall};
 ghost use Rattle.genie_model.specs.Receiving.{note_of, landing, fitting, after_receiving, gathered};
-ghost use Rattle.genie_model.specs.Tables.{change, without};
 
 use crate::change::Turn;
 use crate::phase::Phase;
-use genie_base::{Class, Direction, NoMemory, Note, PageSize, Reply, span};
+use genie_base::{Class, Direction, NoMemory, Note, PageSize, Reply, part, span};
 use std::alloc::Global;
 use std::marker::Model;
 
@@ -84,6 +80,14 @@ pub(crate) struct Target {
     pub(crate) flow: Option<u32>,
 }
 
+impl Target {
+    pub(crate) fn new(device: u32, port: u16, flow: Option<u32>) -> Target
+        ensures { result ≡ record { device = device; port = port; flow = flow } }
+    {
+        Target { device, port, flow }
+    }
+}
+
 /// A call that is accepted: its number, whose it is, its class, where its bytes go to or come from, and how many.
 #[derive(Clone, Copy)]
 pub(crate) struct Call {
@@ -92,6 +96,13 @@ pub(crate) struct Call {
     pub(crate) class: Class,
     pub(crate) target: Target,
     pub(crate) len: u32,
+}
+
+// The address, or 0.
+pub(crate) fn address_or_zero(addr: Option<u32>) -> u32
+    ensures { result ≡ address_or_zero addr }
+{
+    addr.unwrap_or(0)
 }
 
 // How many frames a transfer that touches so many pages may need.
@@ -210,6 +221,12 @@ impl Transfer {
         self.direction
     }
 
+    fn is_inward(&self) -> bool
+        ensures { result ≡ is_inward self.now.direction }
+    {
+        matches!(self.direction, Direction::Inward)
+    }
+
     pub(crate) fn class(&self) -> Class
         ensures { result ≡ self.now.class }
     {
@@ -256,10 +273,7 @@ impl Transfer {
     pub(crate) fn address_or_zero(&self) -> u32
         ensures { result ≡ address_or_zero self.now.addr }
     {
-        match self.addr {
-            Some(addr) => addr,
-            None => 0,
-        }
+        address_or_zero(self.addr)
     }
 
     // The reply to its `done`, with the address where the system placed its buffer.
@@ -295,48 +309,36 @@ impl Transfer {
     pub(crate) fn is_ready(&self) -> bool
         ensures { result ≡ is_ready self.now.phase }
     {
-        match self.phase {
-            Phase::Ready => true,
-            Phase::Queued | Phase::Posted | Phase::Moving => false,
-        }
+        matches!(self.phase, Phase::Ready)
     }
 
     fn is_queued(&self) -> bool
         ensures { result ≡ is_queued self.now.phase }
     {
-        match self.phase {
-            Phase::Queued => true,
-            Phase::Posted | Phase::Moving | Phase::Ready => false,
-        }
+        matches!(self.phase, Phase::Queued)
     }
 
     pub(crate) fn is_posted(&self) -> bool
         ensures { result ≡ is_posted self.now.phase }
     {
-        match self.phase {
-            Phase::Posted => true,
-            Phase::Queued | Phase::Moving | Phase::Ready => false,
-        }
+        matches!(self.phase, Phase::Posted)
     }
 
     fn is_owned_by(&self, pid: u32) -> bool
         ensures { result ≡ is_just self.now.owner pid }
     {
-        match self.owner {
-            Some(owner) => owner == pid,
-            None => false,
-        }
+        self.owner == Some(pid)
     }
 
     // Whether it is a posted input of the process that no record has met.
-    fn is_posted_by(&self, pid: u32) -> bool
+    pub(crate) fn is_posted_by(&self, pid: u32) -> bool
         ensures { result ≡ is_posted_by pid self.now }
     {
         self.is_owned_by(pid) && self.is_posted()
     }
 
     // Without its owner, and as a move without its region, if the process has it.
-    fn disown(&mut self, pid: u32)
+    pub(crate) fn disown(&mut self, pid: u32)
         ensures { self.new ≡ disowned pid self.old }
     {
         if self.is_owned_by(pid) {
@@ -358,10 +360,7 @@ impl Transfer {
     pub(crate) fn names(&self, number: u32) -> bool
         ensures { result ≡ names number self.now }
     {
-        match self.region {
-            Some(region) => region == number,
-            None => false,
-        }
+        self.region == Some(number)
     }
 
     // Whether it is weak and names this region or orphan.
@@ -372,18 +371,14 @@ impl Transfer {
     }
 
     // Whether it is a weak input that names this region or orphan.
-    fn is_weak_input_into(&self, number: u32) -> bool
+    pub(crate) fn is_weak_input_into(&self, number: u32) -> bool
         ensures { result ≡ is_weak_input_into number self.now }
     {
-        let is_inward = match self.direction {
-            Direction::Inward => true,
-            Direction::Outward => false,
-        };
-        is_inward && self.names_weakly(number)
+        self.is_inward() && self.names_weakly(number)
     }
 
     // Whether it is weak and covers this place of this region or orphan.
-    fn covers(&self, number: u32, place: u32) -> bool
+    pub(crate) fn covers(&self, number: u32, place: u32) -> bool
         ensures { result ≡ covers number place self.now }
     {
         self.names_weakly(number)
@@ -474,13 +469,6 @@ fn meets(posted: Option<u32>, wanted: Option<u32>) -> bool
     }
 }
 
-// The bytes as far as the first `n`.
-fn front(bytes: &[u8], n: usize) -> &[u8]
-    ensures { result.now ≡ take n bytes.now }
-{
-    if n < bytes.len() { &bytes[..n] } else { bytes }
-}
-
 // How a datagram of so many bytes met a buffer.
 fn note_of(truncated: bool, len: u32, buffer: u32) -> Note
     ensures { result ≡ note_of truncated len buffer }
@@ -496,21 +484,17 @@ fn note_of(truncated: bool, len: u32, buffer: u32) -> Note
 
 impl Transfer {
     // Whether it is a posted input that a record of this device and port, with this flow or none, meets.
-    fn awaits(&self, device: u32, port: u16, flow: Option<u32>) -> bool
+    pub(crate) fn awaits(&self, device: u32, port: u16, flow: Option<u32>) -> bool
         ensures { result ≡ awaits device port flow self.now }
     {
         self.is_posted() && (self.device == device && self.port == port && meets(self.flow, flow))
     }
 
     // Whether it is an input of the device that is ready.
-    fn has_arrived(&self, device: u32) -> bool
+    pub(crate) fn has_arrived(&self, device: u32) -> bool
         ensures { result ≡ has_arrived device self.now }
     {
-        let is_inward = match self.direction {
-            Direction::Inward => true,
-            Direction::Outward => false,
-        };
-        is_inward && self.is_ready() && self.device == device
+        self.is_inward() && self.is_ready() && self.device == device
     }
 
     // The region or orphan in which a weak one stores what comes.
@@ -528,7 +512,7 @@ impl Transfer {
     pub(crate) fn fitting<'a>(&self, at: u32, bytes: &'a [u8]) -> &'a [u8]
         ensures { result.now ≡ fitting self.now at bytes.now }
     {
-        front(bytes, self.len.saturating_sub(at) as usize)
+        part(bytes, 0, self.len.saturating_sub(at) as usize)
     }
 
     fn keep(&mut self, at: u32, bytes: &[u8]) -> Result<(), NoMemory>
@@ -539,29 +523,25 @@ impl Transfer {
         if !self.class.is_strong() {
             return Ok(());
         }
-        let fitting = front(bytes, self.len.saturating_sub(at) as usize);
-        match self.payload.extend_from_slice(fitting) {
-            Ok(()) => Ok(()),
-            Err(_) => Err(NoMemory),
-        }
+        let fitting = self.fitting(at, bytes);
+        self.payload.extend_from_slice(fitting)?;
+        Ok(())
     }
 
     fn gather(&mut self, truncated: bool, len: u32, bytes: &[u8]) -> Result<(), NoMemory>
         ensures { OnOk result (self.new ≡ gathered truncated len bytes.now self.old) }
     {
-        let fitting = front(bytes, self.len as usize);
+        let fitting = part(bytes, 0, self.len as usize);
         self.phase = Phase::Ready;
         self.stored = fitting.len() as u32;
         self.note = note_of(truncated, len, self.len);
         self.payload.clear();
-        match self.payload.extend_from_slice(fitting) {
-            Ok(()) => Ok(()),
-            Err(_) => Err(NoMemory),
-        }
+        self.payload.extend_from_slice(fitting)?;
+        Ok(())
     }
 
     // Takes a turn.
-    fn turn(&mut self, turn: &Turn) -> Result<(), NoMemory>
+    pub(crate) fn turn(&mut self, turn: &Turn) -> Result<(), NoMemory>
         requires { IsSmall turn.now }
         ensures { OnOk result (self.new ≡ turn_of turn.now self.old) }
     {
@@ -583,183 +563,4 @@ impl Transfer {
             Turn::Received { at, bytes } => self.keep(*at, bytes),
         }
     }
-}
-
-// The first posted input that a record of this device and port, with this flow or none, meets.
-pub(crate) fn first_posted(
-    transfers: &[Transfer],
-    device: u32,
-    port: u16,
-    flow: Option<u32>,
-) -> Option<&Transfer>
-    ensures { option_copied result ≡ find (awaits device port flow) transfers.now }
-{
-    transfers
-        .iter()
-        .find(|transfer| transfer.awaits(device, port, flow))
-}
-
-// How many datagrams of a device wait for their `done`.
-pub(crate) fn arrived(transfers: &[Transfer], device: u32) -> usize
-    ensures { result ≡ count_by (has_arrived device) transfers.now }
-{
-    transfers
-        .iter()
-        .filter(|transfer| transfer.has_arrived(device))
-        .count()
-}
-
-// The one of this number takes a turn.
-pub(crate) fn turn_first(
-    transfers: &mut [Transfer],
-    number: u32,
-    turn: &Turn,
-) -> Result<(), NoMemory>
-    requires { IsSmall turn.now }
-    ensures { OnOk result (transfers.new ≡ change (is_numbered number) (turn_of turn.now) transfers.old) }
-{
-    for i in 0..transfers.len() {
-        let transfer = &mut transfers[i];
-        if transfer.number() == number {
-            return transfer.turn(turn);
-        }
-    }
-    Ok(())
-}
-
-// Whether one of them names this region or orphan.
-pub(crate) fn any_names(transfers: &[Transfer], number: u32) -> bool
-    ensures { result ≡ list_any (names number) transfers.now }
-{
-    transfers.iter().any(|transfer| transfer.names(number))
-}
-
-// Whether a weak one names this region or orphan.
-pub(crate) fn any_names_weakly(transfers: &[Transfer], number: u32) -> bool
-    ensures { result ≡ list_any (names_weakly number) transfers.now }
-{
-    transfers
-        .iter()
-        .any(|transfer| transfer.names_weakly(number))
-}
-
-// Whether a weak input names this region or orphan.
-pub(crate) fn any_weak_input_into(transfers: &[Transfer], number: u32) -> bool
-    ensures { result ≡ list_any (is_weak_input_into number) transfers.now }
-{
-    transfers
-        .iter()
-        .any(|transfer| transfer.is_weak_input_into(number))
-}
-
-// Whether a weak one covers this place of this region or orphan.
-pub(crate) fn any_covers(transfers: &[Transfer], number: u32, place: u32) -> bool
-    ensures { result ≡ list_any (covers number place) transfers.now }
-{
-    transfers
-        .iter()
-        .any(|transfer| transfer.covers(number, place))
-}
-
-// The first one that waits for a device.
-pub(crate) fn first_queued(transfers: &[Transfer], device: u32) -> Option<&Transfer>
-    ensures { option_copied result ≡ find (waits_for device) transfers.now }
-{
-    transfers
-        .iter()
-        .find(|transfer| transfer.is_queued_for(device))
-}
-
-// The one of this number.
-pub(crate) fn numbered(transfers: &[Transfer], number: u32) -> Option<&Transfer>
-    ensures { option_copied result ≡ find (is_numbered number) transfers.now }
-{
-    transfers
-        .iter()
-        .find(|transfer| transfer.number() == number)
-}
-
-// The frames that all of them may need.
-pub(crate) fn wired(transfers: &[Transfer], page: PageSize) -> u64
-    requires { length transfers.now ≤ 64 }
-    ensures cost { result ≡ sum_by (cost_of page) transfers.now }
-    ensures most { result ≤ 2 ^ 33 * length transfers.now }
-{
-    let mut wired = 0;
-    for transfer in transfers {
-        wired += transfer.cost(page);
-    }
-    wired
-}
-
-// The next `k` bytes of the record of the first one that waits for a device are sent.
-pub(crate) fn send_first(transfers: &mut [Transfer], device: u32, k: u64)
-    requires { (t : Pending) → find (waits_for device) transfers.old ≡ Some t → k ≤ unsent t }
-    ensures { transfers.new ≡ change (waits_for device) (after_sending k) transfers.old }
-{
-    for i in 0..transfers.len() {
-        let transfer = &mut transfers[i];
-        if transfer.is_queued_for(device) {
-            transfer.send(k);
-            return;
-        }
-    }
-}
-
-// The next `k` bytes of the first one that waits for a device are staged.
-pub(crate) fn stage_first(
-    transfers: &mut [Transfer],
-    device: u32,
-    k: u32,
-    bytes: &[u8],
-) -> Result<(), NoMemory>
-    requires { (t : Pending) → find (waits_for device) transfers.old ≡ Some t → k ≤ t.len - t.staged }
-    ensures { OnOk result (transfers.new ≡ change (waits_for device) (after_staging k bytes.now) transfers.old) }
-{
-    for i in 0..transfers.len() {
-        let transfer = &mut transfers[i];
-        if transfer.is_queued_for(device) {
-            return transfer.stage(k, bytes);
-        }
-    }
-    Ok(())
-}
-
-// Ends the posted inputs of a process.
-fn end_posted(transfers: &mut Vec<Transfer>, pid: u32)
-    ensures rest { transfers.new.items ≡ filter (λ t. not (is_posted_by pid t)) transfers.old.items }
-    ensures fewer { length transfers.new.items ≤ length transfers.old.items }
-{
-    transfers.retain(|transfer| !transfer.is_posted_by(pid));
-}
-
-fn disown_each(transfers: &mut [Transfer], pid: u32)
-    ensures { transfers.new ≡ map (disowned pid) transfers.old }
-{
-    for transfer in transfers.iter_mut() {
-        transfer.disown(pid);
-    }
-}
-
-// Ends the posted inputs of a process, and takes the owner from its other transfers.
-pub(crate) fn disown_all(transfers: &mut Vec<Transfer>, pid: u32)
-    ensures rest { transfers.new.items ≡ map (disowned pid) (filter (λ t. not (is_posted_by pid t)) transfers.old.items) }
-    ensures fewer { length transfers.new.items ≤ length transfers.old.items }
-{
-    end_posted(transfers, pid);
-    disown_each(transfers.as_mut_slice(), pid);
-}
-
-// Takes the one of this number out.
-pub(crate) fn take(transfers: &mut Vec<Transfer>, number: u32) -> Option<Transfer>
-    ensures found { result ≡ find (is_numbered number) transfers.old.items }
-    ensures rest { transfers.new.items ≡ without (is_numbered number) transfers.old.items }
-    ensures fewer { length transfers.new.items ≤ length transfers.old.items }
-{
-    for i in 0..transfers.len() {
-        if transfers[i].number() == number {
-            return Some(transfers.remove(i));
-        }
-    }
-    None
 }

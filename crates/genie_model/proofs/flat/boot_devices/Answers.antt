@@ -13,4 +13,4 @@ loop-config-preserved c =
     let i = c.loop-config.config-index in
     let within : i < length configs = simp length-map c.loop-config-test.true in
     booted_more (λ _. []) c.loop-config.devices.items c.push.new.self.items _ configs i None within c.loop-config.invariant
-    (c.in-Ok.ensures.items ∙ ap (λ x. c.loop-config.devices.items ++ x ∷ []) (c.boot_device.ensures i ∙ ap (boot_device (λ _. []) i) (sym (get_or-map (option_map device_config) c.args.configs.now i _ None c.loop-config-test.true))))
+    (c.in_ok-push.ensures.items ∙ ap (λ x. c.loop-config.devices.items ++ x ∷ []) (c.boot_device.ensures i ∙ ap (boot_device (λ _. []) i) (sym (get_or-map (option_map device_config) c.args.configs.now i _ None c.loop-config-test.true))))

@@ -16,8 +16,8 @@ split r rest =
 
 pub loop-region-preserved : goal.loop-region-preserved
 loop-region-preserved c =
-    let here = c.in-Ok.ensures.copies ∙ ap (λ r. c.loop-region.copies.items ++ live_copy r) c.region-item.is in
+    let here = c.in_ok-push_copy.ensures.copies ∙ ap (λ r. c.loop-region.copies.items ++ live_copy r) c.region-item.is in
     record {
       so_far = collected_more (λ rs. map (with_state Live) (accessible rs)) live_copy split c.args.regions.now c.loop-region.region-index c.region-item.result c.loop-region.copies.items _ _ c.loop-region-test.true c.loop-region.invariant.so_far here;
-      few = omega (arith, c.in-Ok.ensures.few, c.loop-region.invariant.few);
+      few = omega (arith, c.in_ok-push_copy.ensures.few, c.loop-region.invariant.few);
     }

@@ -11,8 +11,8 @@ loop-region-preserved c =
     let p = c.args.pid in
     let d = c.region-item.result in
     let fewer = added_few s p (copy_of s d) in
-    let same = ap (λ (t : State). length (regions_at t p)) c.in-Ok.ensures in
+    let same = ap (λ (t : State). length (regions_at t p)) c.in_ok-add_copy.ensures in
     record {
-      so_far = copies_more s c.add_copy.new.self _ p c.args.regions.now c.loop-region.region-index d c.loop-region-test.true c.loop-region.invariant.so_far (c.in-Ok.ensures ∙ ap (λ r. add_region s p (copy_of s r)) c.region-item.is);
+      so_far = copies_more s c.add_copy.new.self _ p c.args.regions.now c.loop-region.region-index d c.loop-region-test.true c.loop-region.invariant.so_far (c.in_ok-add_copy.ensures ∙ ap (λ r. add_region s p (copy_of s r)) c.region-item.is);
       few = omega (arith, fewer, same, c.loop-region.invariant.few);
     }

@@ -6,4 +6,4 @@ use Rattle.genie_model.proofs.machine.Machine.finish_move.Goals as goal
 pub returns : goal.returns
 returns c =
     let found : region_of c.args.self.now c.args.transfer.now ≡ Some c.in-Some.region.now = sym c.in-Some.ensures in
-    ap (finish_move c.args.self.now c.args.transfer.now) found ∙ rw (c.arrived.ensures, c.address_of.ensures, c.change_region.ensures, c.number.ensures, c.payload.ensures) refl
+    ap (finish_move c.args.self.now c.args.transfer.now) found ∙ rw (c.arrived.ensures, c.address_of-addr.ensures, c.change_region.ensures, c.number-number.ensures, c.payload.ensures) refl

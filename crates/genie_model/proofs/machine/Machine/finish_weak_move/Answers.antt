@@ -6,5 +6,5 @@ use Rattle.genie_model.proofs.machine.Machine.finish_weak_move.Goals as goal
 pub returns : goal.returns
 returns c =
     let found : region_of c.args.self.now c.args.transfer.now ≡ Some c.in-Some.region.now = sym c.in-Some.ensures in
-    let landed : c.land.new.self ≡ after_landing c.args.self.now c.args.transfer.now c.in-Some.region.now = c.land.ensures c.in-Some.region.now (sym c.number.ensures) in
-    ap (finish_weak_move c.args.self.now c.args.transfer.now) found ∙ rw (c.arrived.ensures, c.address_of.ensures, c.change_region.ensures, landed, c.number.ensures) refl
+    let landed : c.land_late.new.self ≡ after_landing c.args.self.now c.args.transfer.now c.in-Some.region.now = c.land_late.ensures c.in-Some.region.now (sym c.number-number.ensures) in
+    ap (finish_weak_move c.args.self.now c.args.transfer.now) found ∙ rw (c.arrived.ensures, c.address_of-addr.ensures, c.change_region.ensures, landed, c.number-number.ensures) refl

@@ -13,5 +13,5 @@ returns c =
     let start = spawned s q in
     let copies = accessible (regions_at s c.args.parent) in
     let same : add_copies c.spawn.new.self q c.as_slice.result.now ≡ add_copies start q copies =
-    ap (λ (t : State). add_copies t q c.as_slice.result.now) c.spawn.ensures ∙ ap (add_copies start q) (c.as_slice.ensures.value ∙ c.in-Ok.ensures.copies) ∙ copies_live start q copies in
+    ap (λ (t : State). add_copies t q c.as_slice.result.now) c.spawn.ensures ∙ ap (add_copies start q) (c.as_slice.ensures.value ∙ c.in_ok-copies.ensures.copies) ∙ copies_live start q copies in
     on_ok c.add_copies.result (λ e. e ∙ same) c.add_copies.ensures

@@ -14,9 +14,9 @@ removed : {T : Type 0} (t new : State) (o : Option Region) (orphan : Orphan) (re
 removed t new None orphan result e f = absurd (cc)
 removed t new (Some r) orphan result e f = f r (cc)
 
-pub returns-in-Ok-add_output : goal.returns-in-Ok-add_output
-returns-in-Ok-add_output c =
+pub returns : goal.returns
+returns c =
     let s : State = c.args.self.now in
     let reached = reach_of s c.args.pid c.args.addr c.args.len in
-    let gone = removed c.add_output.new.self c.remove.new.self reached c.in-Ok.orphan c.remove.result c.in-Ok.ensures c.remove.ensures in
-    on_ok c.remove.result (λ e. e ∙ ap (λ (t : State). give_up t Move reached) c.in-Ok-add_output.ensures) gone
+    let gone = removed c.add_output.new.self c.remove.new.self reached c.in_ok-orphan.orphan c.remove.result c.in_ok-orphan.ensures c.remove.ensures in
+    on_ok c.remove.result (λ e. e ∙ ap (λ (t : State). give_up t Move reached) c.in_ok-add_output.ensures) gone

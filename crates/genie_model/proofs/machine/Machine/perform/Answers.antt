@@ -8,8 +8,8 @@ use Rattle.genie_model.proofs.machine.Machine.perform.Goals as goal
 pub returns-in-Alloc : goal.returns-in-Alloc
 returns-in-Alloc c = rw c.in-Alloc.is c.alloc.ensures
 
-pub input-requires-clause-short : goal.input-requires-clause-short
-input-requires-clause-short c =
+pub perform_input-requires-clause-short : goal.perform_input-requires-clause-short
+perform_input-requires-clause-short c =
     let s = c.args.self.now in
     let i = c.in-Input in
     let a = address_or_zero i.addr in

@@ -4,7 +4,7 @@ use Rattle.genie_model.specs.Pending.{is_numbered}
 use Rattle.genie_model.specs.Changes.{turn_of}
 use Rattle.genie_model.proofs.First.{passed_changed, passed_unchanged}
 use Rattle.genie_model.proofs.Results.{on_ok}
-use Rattle.genie_model.proofs.transfer.turn_first.Goals as goal
+use Rattle.genie_model.proofs.transfers.turn_first.Goals as goal
 
 pub returns-then-number : goal.returns-then-number
 returns-then-number c =

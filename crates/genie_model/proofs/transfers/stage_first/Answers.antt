@@ -4,7 +4,7 @@ use Rattle.genie_model.specs.Pending.{waits_for}
 use Rattle.genie_model.specs.Sending.{after_staging}
 use Rattle.genie_model.proofs.First.{passed_changed}
 use Rattle.genie_model.proofs.Results.{on_ok}
-use Rattle.genie_model.proofs.transfer.stage_first.Goals as goal
+use Rattle.genie_model.proofs.transfers.stage_first.Goals as goal
 
 pub returns-then-is_queued_for : goal.returns-then-is_queued_for
 returns-then-is_queued_for c =

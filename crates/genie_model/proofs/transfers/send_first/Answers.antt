@@ -3,7 +3,7 @@ use Rattle.genie_model.specs.State.{Transfer}
 use Rattle.genie_model.specs.Pending.{waits_for}
 use Rattle.genie_model.specs.Sending.{after_sending}
 use Rattle.genie_model.proofs.First.{passed_changed, passed_unchanged}
-use Rattle.genie_model.proofs.transfer.send_first.Goals as goal
+use Rattle.genie_model.proofs.transfers.send_first.Goals as goal
 
 pub returns-then-is_queued_for : goal.returns-then-is_queued_for
 returns-then-is_queued_for c =

@@ -1,10 +1,10 @@
 use Rattle.std.proofs.Common.{◌≡◌}
-use Rattle.genie_model.specs.Pending.{is_numbered}
+use Rattle.genie_model.specs.Pending.{waits_for}
 use Rattle.genie_model.proofs.First.{Passed}
-use Rattle.genie_model.proofs.transfer.turn_first.Given as goal
+use Rattle.genie_model.proofs.transfers.send_first.Given as goal
 
 abbrev pub invariant-loop-i : goal.invariant-loop-i
 invariant-loop-i l = record {
   same : l.transfers ≡ l.fn.transfers;
-  passed : Passed (is_numbered l.number) l.fn.transfers l.i;
+  passed : Passed (waits_for l.device) l.fn.transfers l.i;
 }

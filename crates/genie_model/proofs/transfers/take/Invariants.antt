@@ -1,7 +1,7 @@
 use Rattle.std.proofs.Common.{◌≡◌}
 use Rattle.genie_model.specs.Pending.{is_numbered}
 use Rattle.genie_model.proofs.First.{Passed}
-use Rattle.genie_model.proofs.transfer.take.Given as goal
+use Rattle.genie_model.proofs.transfers.take.Given as goal
 
 abbrev pub invariant-loop-i : goal.invariant-loop-i
 invariant-loop-i l = record {

@@ -1,7 +1,7 @@
 use Rattle.std.proofs.Common.{◌≡◌}
 use Rattle.genie_model.specs.Pending.{waits_for}
 use Rattle.genie_model.proofs.First.{Passed}
-use Rattle.genie_model.proofs.transfer.stage_first.Given as goal
+use Rattle.genie_model.proofs.transfers.stage_first.Given as goal
 
 abbrev pub invariant-loop-i : goal.invariant-loop-i
 invariant-loop-i l = record {

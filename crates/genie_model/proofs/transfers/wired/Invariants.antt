@@ -1,7 +1,7 @@
 use Rattle.std.proofs.Common.{◌≡◌, ◌≤◌, ◌*◌, ◌^◌, take}
 use Rattle.std.specs.Prelude.{sum_by}
 use Rattle.genie_model.specs.Pending.{cost_of}
-use Rattle.genie_model.proofs.transfer.wired.Given as goal
+use Rattle.genie_model.proofs.transfers.wired.Given as goal
 
 abbrev pub invariant-loop-transfer : goal.invariant-loop-transfer
 invariant-loop-transfer l = record {
