@@ -212,7 +212,7 @@ impl Machine {
         self.move_out(number)
     }
 
-    fn after_cancel(&mut self, transfer: &Transfer) -> Result<(), NoMemory>
+    fn give_up(&mut self, transfer: &Transfer) -> Result<(), NoMemory>
         ensures { OnOk result (self.new ≡ give_up self.old transfer.now.class (region_of self.old transfer.now)) }
     {
         match transfer.class() {
@@ -230,6 +230,6 @@ impl Machine {
         let Some(transfer) = self.take(id) else {
             unreachable!()
         };
-        self.after_cancel(&transfer)
+        self.give_up(&transfer)
     }
 }
