@@ -1,5 +1,5 @@
 -- What each change that an event is made of keeps, the event keeps, where it makes no process and no region.
-use Rattle.std.proofs.Common.{◌≡◌, ℕ, Bool, true, false, List, refl, true≢false}
+use Rattle.std.proofs.Common.{◌≡◌, ℕ, Bool, true, false, List, true≢false}
 use Rattle.std.specs.Prelude.{Option, Some, None}
 use Rattle.genie_base.specs.Transfers.{class_of}
 use Rattle.genie_base.specs.declared.event.Event.{Event}
