@@ -8,7 +8,7 @@ use Rattle.genie_base.specs.declared.semantics.Class.{Class}
 use Rattle.genie_base.specs.declared.semantics.Class.TheVariants.{WeakMove}
 use Rattle.genie_model.specs.State.{State, Region, Orphan}
 use Rattle.genie_model.specs.Regions.{regions_at, stored_in_orphan}
-use Rattle.genie_model.specs.Space.{add_orphan, add_orphans, add_region, copy_of, add_copies, accessible, spawned, stored}
+use Rattle.genie_model.specs.Space.{add_orphan, add_orphans, add_region, copy_of, add_copies, accessible, spawned}
 use Rattle.genie_model.specs.Inputs.{with_buffer, weak_buffer, reusable, pages_for}
 use Rattle.genie_model.specs.Step.{perform}
 use Rattle.genie_model.proofs.Events.{IsKept, event_kept}

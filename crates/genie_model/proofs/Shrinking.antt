@@ -5,7 +5,7 @@ use Rattle.std.proofs.lemmas.List.{length-map, length-replicate}
 use Rattle.std.proofs.lemmas.List.Elements.{All-map, All-weaker, All-set}
 use Rattle.std.proofs.lemmas.List.Sums.{sum_by-cons}
 use Rattle.genie_base.proofs.Overlaid.{length-overlaid}
-use Rattle.genie_base.specs.Configs.{Config, most}
+use Rattle.genie_base.specs.Configs.{Config}
 use Rattle.genie_base.specs.declared.region.RegionState.{RegionState}
 use Rattle.genie_base.specs.declared.region.RegionState.TheVariants.{Out, In}
 use Rattle.genie_model.specs.Orderly.{AreApart}
