@@ -9,9 +9,9 @@ use Rattle.std.proofs.lemmas.List.Sums.{sum_by-cons}
 use Rattle.genie_model.specs.State.{Transfer}
 use Rattle.genie_model.specs.Pending.{cost_of, is_numbered, covers}
 use Rattle.genie_model.specs.Tables.{change, without}
-use Rattle.genie_model.proofs.Having.{find_has, pairs_head, pairs_tail}
 use Rattle.genie_model.specs.Sending.{unsent, after_sending}
 use Rattle.genie_model.specs.declared.phase.Phase.TheVariants.{Ready}
+use Rattle.genie_model.proofs.Having.{find_has, pairs_head, pairs_tail}
 
 -- u is what became of t
 pub record Same (t u : Transfer) : Type 0 where

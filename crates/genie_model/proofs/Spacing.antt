@@ -24,6 +24,7 @@ use Rattle.genie_model.specs.Space.{spawned, zeros, zeros_at_place, with_region,
 use Rattle.genie_model.specs.State.{State, Region, Process}
 use Rattle.genie_model.specs.Step.{accept, perform, with_budget}
 use Rattle.genie_model.specs.Tables.{entry}
+use Rattle.genie_model.specs.Ending.{filled}
 use Rattle.genie_model.proofs.Accepted.{IsNew, map_accepted, alloc_accepted, input_accepted, fork_accepted, page_some}
 use Rattle.genie_model.proofs.Apart.{Before, all_added, sum_added, one_more, clear}
 use Rattle.genie_model.proofs.Forking.{added_few}
@@ -31,7 +32,6 @@ use Rattle.genie_model.proofs.Shrinking.{KeepsTable, set_sum, spawned_keeps, exi
 use Rattle.genie_model.proofs.Stepping.{event_so}
 use Rattle.genie_model.proofs.Having.{at_entry, pairs_all, pairs_tail}
 use Rattle.genie_model.proofs.Events.{IsKept, event_kept}
-use Rattle.genie_model.specs.Ending.{filled}
 
 -- 16 processes, whose regions are apart and fit the store
 pub record SpacedTable (c : Config) (processes : List (Option Process)) : Type 0 where
