@@ -1,6 +1,6 @@
 -- What is known of an accepted event that makes a region or a process.
-use Rattle.std.proofs.Common.{◌≡◌, ℕ, zero, suc, ◌+◌, ◌-◌, ◌*◌, ◌<◌, ◌≤◌, Bool, true, false, not, List, [], ◌∷◌, ◌++◌, length, refl, arith}
-use Rattle.std.specs.Prelude.{Option, Some, None, All, IsTrue, cond, find, unwrap_or, sum_by, nat_lt, ◌||◌, is_some}
+use Rattle.std.proofs.Common.{◌≡◌, ℕ, zero, suc, ◌+◌, ◌-◌, ◌*◌, ◌<◌, ◌≤◌, Bool, true, false, not, List, [], ◌∷◌, ◌++◌, length, refl, arith, true≢false}
+use Rattle.std.specs.Prelude.{Option, Some, None, All, IsTrue, cond, find, unwrap_or, sum_by, nat_lt, ◌||◌, is_some, ⊤}
 use Rattle.std.specs.List.{range_with_len}
 use Rattle.std.proofs.lemmas.Bool.Decides.{nat_tests}
 use Rattle.std.proofs.lemmas.List.Elements.{All-cons, All-head, All-tail, All-weaker}
@@ -10,20 +10,24 @@ use Rattle.std.proofs.lemmas.Bool.{not-false, leb-false}
 use Rattle.genie_base.specs.Configs.{DeviceConfig}
 use Rattle.genie_base.specs.Counts.{is_page_size}
 use Rattle.genie_base.specs.Regions.{is_apart, is_free}
-use Rattle.genie_base.specs.declared.event.Event.TheVariants.{Spawn, Fork, Map, Alloc}
+use Rattle.genie_base.specs.declared.event.Event.TheVariants.{Spawn, Fork, Map, Alloc, Output, Input, Send, Recv, Finish, Cancel}
 use Rattle.genie_base.specs.declared.refusal.Refusal.{Refusal}
 use Rattle.genie_base.specs.declared.refusal.Refusal.TheVariants.{Proc}
 use Rattle.genie_base.specs.declared.region.Area.{Area}
 use Rattle.genie_base.specs.declared.region.Area.TheVariants.{App, Sys}
 use Rattle.genie_base.specs.declared.semantics.Class.{Class}
 use Rattle.genie_base.specs.declared.semantics.Class.TheVariants.{Copy, Share, Move, WeakMove}
-use Rattle.genie_model.specs.Inputs.{pages_for}
+use Rattle.genie_base.specs.declared.event.Event.{Event}
+use Rattle.genie_base.specs.Transfers.{class_of, is_system}
+use Rattle.genie_model.specs.Inputs.{pages_for, address_or_zero}
 use Rattle.genie_model.specs.Orderly.{IsIn}
-use Rattle.genie_model.specs.Refusing.{causes, refuse, first_cause, call_causes, new_region_causes, sys_causes, buffer_causes, target_causes, must_make, most_of, over_backing, accessible_pages, is_within}
-use Rattle.genie_model.specs.Regions.{extent_of, regions_at, is_alive, place_of, committed}
+use Rattle.genie_model.specs.Refusing.{causes, refuse, first_cause, call_causes, new_region_causes, sys_causes, buffer_causes, target_causes, must_make, most_of, over_backing, accessible_pages, is_within, has_output, is_finished, may_cancel}
+use Rattle.genie_model.specs.Regions.{extent_of, regions_at, is_alive, place_of, committed, reach_of}
 use Rattle.genie_model.specs.State.{State, Region}
 use Rattle.genie_model.specs.Tables.{entry}
-use Rattle.genie_model.proofs.Causes.{Fails, none_holds, both_none, most_end}
+use Rattle.genie_model.specs.Pending.{pending}
+use Rattle.genie_model.specs.Step.{with_budget}
+use Rattle.genie_model.proofs.Causes.{Fails, none_holds, both_none, most_end, second_holds}
 
 -- n pages from this one on are a region that process p may get: in their area, free, and with room in the table of the
 -- process and in the store
@@ -127,11 +131,44 @@ nothing_here : {X : Type 0} (o : Option X) → is_some o ≡ false → o ≡ Non
 nothing_here None e = refl
 nothing_here (Some x) e = absurd (cc)
 
-pub spawn_accepted : (s : State) (p : ℕ) → refuse s (Spawn p) ≡ None → entry s.processes p ≡ None
-spawn_accepted s p e = nothing_here (entry s.processes p) (none_holds (causes s (Spawn p)) e 1 (true, Proc) (omega arith))
-
 pub fork_accepted : (s : State) (p q : ℕ) → refuse s (Fork p q) ≡ None → IsNewProcess s p q
 fork_accepted s p q e =
     let none = none_holds (causes s (Fork p q)) e in
     let d : Bool × Refusal = (true, Proc) in
     record { place = second (not (is_alive s p)) q (none 0 d (omega arith)); free = nothing_here (entry s.processes q) (none 1 d (omega arith)); backing = fits s (sum_by accessible_pages (regions_at s p)) (none 2 d (omega arith)) }
+
+-- what is known of an event that isn't refused
+abbrev pub Allowed : State → Event → Type 0
+Allowed s (Spawn p) = entry s.processes p ≡ None
+Allowed s (Fork p q) = (q < 16) × (entry s.processes q ≡ None)
+Allowed s (Output p sem d port flow a n) = is_some (reach_of s p a n) ≡ true
+Allowed s (Input p sem d port flow a n) = (is_alive s p ≡ true) × (is_system (class_of sem) ≡ false → is_some (reach_of s p (address_or_zero a) n) ≡ true)
+Allowed s (Send d n) = has_output (entry s.config.devices d) ≡ true
+Allowed s (Finish k) = is_finished (pending s k) ≡ true
+Allowed s (Cancel k) = may_cancel (pending s k) ≡ true
+Allowed s _ = ⊤
+
+-- a buffer of the application's is reached
+app_here : (s : State) (p : ℕ) (class : Class) (d a n : ℕ) → first_cause (target_causes s p class d a n) ≡ None → is_system class ≡ false → is_some (reach_of s p a n) ≡ true
+app_here s p Copy d a n e app = second_holds _ _ (none_holds (target_causes s p Copy d a n) e 2 (true, Proc) (omega arith))
+app_here s p Share d a n e app = second_holds _ _ (none_holds (target_causes s p Share d a n) e 2 (true, Proc) (omega arith))
+app_here s p Move d a n e app = absurd (true≢false app)
+app_here s p WeakMove d a n e app = absurd (true≢false app)
+
+pub allowed : (s : State) (e : Event) → refuse s e ≡ None → Allowed s e
+allowed s (Spawn p) h = nothing_here (entry s.processes p) (none_holds (causes s (Spawn p)) h 1 (true, Proc) (omega arith))
+allowed s (Fork p q) h = let new = fork_accepted s p q h in (new.place, new.free)
+allowed s (Output p sem d port flow a n) h = second_holds _ _ (none_holds (causes s (Output p sem d port flow a n)) h 2 (true, Proc) (omega arith))
+allowed s (Input p sem d port flow a n) h =
+    let none = (both_none (target_causes s p (class_of sem) d (address_or_zero a) n) _ h).0 in
+    (not-false (is_alive s p) (none_holds (target_causes s p (class_of sem) d (address_or_zero a) n) none 0 (true, Proc) (omega arith)), app_here s p (class_of sem) d (address_or_zero a) n none)
+allowed s (Send d n) h = not-false (has_output (entry s.config.devices d)) (none_holds (causes s (Send d n)) h 0 (true, Proc) (omega arith))
+allowed s (Finish k) h = not-false (is_finished (pending s k)) (none_holds (causes s (Finish k)) h 0 (true, Proc) (omega arith))
+allowed s (Cancel k) h = not-false (may_cancel (pending s k)) (none_holds (causes s (Cancel k)) h 0 (true, Proc) (omega arith))
+allowed s e h = tt
+
+-- the same with each budget
+pub budget_allowed : (s : State) (e : Event) (k : ℕ) → Allowed s e → Allowed s (with_budget e k)
+budget_allowed s (Send d n) k h = h
+budget_allowed s (Recv d n) k h = tt
+budget_allowed s e k h = h

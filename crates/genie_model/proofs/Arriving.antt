@@ -16,14 +16,11 @@ use Rattle.genie_model.specs.Regions.{put}
 use Rattle.genie_model.specs.Pending.{is_early, pending, first_posted}
 use Rattle.genie_model.specs.Space.{Outcome}
 use Rattle.genie_model.specs.Receiving.{set_device, is_busy, with_phase, change_transfer, deliver, complete, landing, landed, land_in, land, after_bytes, go_on, take_payload, datagram, skipped, match_header, begin_datagram, read_header, take_header, receive_record, receive, recv}
+use Rattle.genie_model.proofs.Remaining.{KeepsCall}
 
 pub choice : (P : State → Type 0) (b : Bool) (x y : Outcome) → P x.0 → P y.0 → P (if b then x else y).0
 choice P true x y p q = p
 choice P false x y p q = q
-
--- all that it changes of a transfer is what has become of its bytes
-abbrev pub Receives : (Transfer → Transfer) → Type 0
-Receives f = (t : Transfer) → f t ≡ record t { phase = (f t).phase; payload = (f t).payload; staged = (f t).staged; moved = (f t).moved; stored = (f t).stored; note = (f t).note }
 
 -- what a receive step of device d may answer
 pub record Answers (Q : Reply → Type 0) : Type 0 where
@@ -34,7 +31,7 @@ pub record Answers (Q : Reply → Type 0) : Type 0 where
   pub dropped : (port : ℕ) (flow : Option ℕ) (len : ℕ) → Q (reply.Dropped port flow len)
 
 -- P is kept of states, devices have a shape, and Q is so of replies
-module _ (P : State → Type 0) (Shape : Kind → ℕ → Type 0) (Q : Reply → Type 0) (d : ℕ) (device : (s : State) (v : Device) → Shape v.kind v.depth → P s → P (set_device s d v)) (transfer : (s : State) (k : ℕ) (f : Transfer → Transfer) → Receives f → P s → P (change_transfer s k f)) (bytes : (s : State) (k x : ℕ) (new : List ℕ) → P s → P (put s k x new)) (answers : Answers Q) where
+module _ (P : State → Type 0) (Shape : Kind → ℕ → Type 0) (Q : Reply → Type 0) (d : ℕ) (device : (s : State) (v : Device) → Shape v.kind v.depth → P s → P (set_device s d v)) (transfer : (s : State) (k : ℕ) (f : Transfer → Transfer) → KeepsCall f → P s → P (change_transfer s k f)) (bytes : (s : State) (k x : ℕ) (new : List ℕ) → P s → P (put s k x new)) (answers : Answers Q) where
   abbrev Does : Outcome → Type 0
   Does o = P o.0 × Q o.1
 
@@ -102,5 +99,5 @@ pub any_answer : Answers (λ _. ⊤)
 any_answer = record { end = tt; bad = tt; busy = tt; got = λ _. tt; dropped = λ _ _ _. tt }
 
 -- the same of states alone
-pub recv_keeps : (P : State → Type 0) → ((s : State) (d : ℕ) (v : Device) → P s → P (set_device s d v)) → ((s : State) (k : ℕ) (f : Transfer → Transfer) → Receives f → P s → P (change_transfer s k f)) → ((s : State) (k x : ℕ) (new : List ℕ) → P s → P (put s k x new)) → (s : State) (d n : ℕ) → P s → P (recv s d n).0
+pub recv_keeps : (P : State → Type 0) → ((s : State) (d : ℕ) (v : Device) → P s → P (set_device s d v)) → ((s : State) (k : ℕ) (f : Transfer → Transfer) → KeepsCall f → P s → P (change_transfer s k f)) → ((s : State) (k x : ℕ) (new : List ℕ) → P s → P (put s k x new)) → (s : State) (d n : ℕ) → P s → P (recv s d n).0
 recv_keeps P device transfer bytes s d n p = (recv_does P (λ _ _. ⊤) (λ _. ⊤) d (λ t v _ h. device t d v h) transfer bytes any_answer s n (λ _ _. tt) p).0

@@ -1,7 +1,7 @@
 -- What a step keeps: the configuration, and the transfers but those that end or that a call adds.
 use Rattle.std.proofs.Common.{◌≡◌, ℕ, ◌+◌, Bool, false, List, [], ◌∷◌, ◌&&◌, refl, ap, sym, subst, ◌∙◌}
 use Rattle.std.proofs.lemmas.Bool.{cond_both}
-use Rattle.std.specs.Prelude.{Option, Some, None, filter, not, nat_le, nat_lt, ◌==◌, if◌then◌else◌, ⊤}
+use Rattle.std.specs.Prelude.{Option, Some, None, filter, not, nat_le, nat_lt, if◌then◌else◌, ⊤}
 use Rattle.genie_base.specs.Transfers.{class_of, is_strong}
 use Rattle.genie_base.specs.declared.event.Event.{Event}
 use Rattle.genie_base.specs.declared.event.Event.TheVariants.{Fork, Exit, Unmap, Protect, Write, Output, Input, Send, Recv, Finish, Cancel}
@@ -20,13 +20,13 @@ use Rattle.genie_model.specs.Pending.{first_queued, pending, is_just, is_numbere
 use Rattle.genie_model.specs.Space.{Outcome, region_from, spawned, accessible, is_move, disowned, is_posted_by, exit}
 use Rattle.genie_model.specs.Outputs.{output_of}
 use Rattle.genie_model.specs.Inputs.{posted, address_or_zero}
-use Rattle.genie_model.specs.Sending.{after_sending, must_stage, unsent, send_next}
-use Rattle.genie_model.specs.Receiving.{change_transfer, recv}
+use Rattle.genie_model.specs.Sending.{must_stage, send_next}
+use Rattle.genie_model.specs.Receiving.{recv}
 use Rattle.genie_model.specs.Ending.{finish_copy, finish_share, finish_move, finish_weak_move, finish_input, finish_owned, finish_for, finish_found, cancel_found, without_transfer, region_of}
 use Rattle.genie_model.specs.Laws.{is_refused, id_of, StepsKeepConfig}
 use Rattle.genie_model.specs.Refusing.{refuse}
 use Rattle.genie_model.specs.Step.{accept, perform, with_budget, step}
-use Rattle.genie_model.proofs.Remaining.{Same, Remain, alike, same, same_choice, remain, remain_later, change_remain, without_remain, filter_remain, map_remain}
+use Rattle.genie_model.proofs.Remaining.{Same, Remain, same, same_choice, remain, remain_later, change_remain, without_remain, filter_remain, map_remain, sending_call}
 use Rattle.genie_model.proofs.Arriving.{recv_does}
 use Rattle.genie_model.proofs.Aside.{SameBut, copies_like, remove_like, protect_like, stored_like, given_up_like, buffer_like, finish_for_like}
 use Rattle.genie_model.proofs.Stepping.{event_so}
@@ -101,17 +101,13 @@ called s u t e = record { keeps = aside (add_transfer s t) u e; taken = refl; id
 send_did : (s : State) (d n : ℕ) (o : Option Transfer) → Did s None (send_next s d n o)
 send_did s d n None = quiet s _ _ refl refl
 send_did s d n (Some t) =
-    let sent : (k : ℕ) (u : Transfer) → Same u (after_sending k u) = λ k u. same_choice u (k == unsent u) _ _ (alike refl) (alike refl) in
     cond_both (must_stage s d t) _ _ (Did s None)
-    (λ _. after s _ _ (record { config = refl; left = change_remain (waits_for d) _ (λ u. alike refl) s.transfers; next = refl }) refl)
-    (λ _. after s _ _ (record { config = refl; left = change_remain (waits_for d) _ (sent _) s.transfers; next = refl }) refl)
-
-change_keeps : (s : State) (k : ℕ) (f : Transfer → Transfer) → ((t : Transfer) → Same t (f t)) → Keeps s (change_transfer s k f)
-change_keeps s k f h = record { config = refl; left = change_remain (is_numbered k) f h s.transfers; next = refl }
+    (λ _. after s _ _ (record { config = refl; left = change_remain (waits_for d) _ (λ u. refl) s.transfers; next = refl }) refl)
+    (λ _. after s _ _ (record { config = refl; left = change_remain (waits_for d) _ (sending_call _) s.transfers; next = refl }) refl)
 
 recv_did : (s : State) (d n : ℕ) → Did s None (recv s d n)
 recv_did s d n =
-    let does = recv_does (Keeps s) (λ _ _. ⊤) IsQuiet d (λ t v _ k. record { config = k.config; left = k.left; next = k.next }) (λ t i f e k. later s t _ k (change_keeps t i f (λ u. alike (e u)))) (λ t i x new k. later s t _ k (aside t _ refl))
+    let does = recv_does (Keeps s) (λ _ _. ⊤) IsQuiet d (λ t v _ k. record { config = k.config; left = k.left; next = k.next }) (λ t i f call k. later s t _ k (record { config = refl; left = change_remain (is_numbered i) f call t.transfers; next = refl })) (λ t i x new k. later s t _ k (aside t _ refl))
     (record { end = refl; bad = refl; busy = refl; got = λ k. refl; dropped = λ port flow len. refl }) s n (λ v e. tt) (unchanged s) in
     after s _ _ does.0 does.1
 

@@ -1,6 +1,6 @@
 -- Every event but those that store bytes leaves a byte that a pending weak transfer covers.
 use Rattle.std.proofs.Common.{◌≡◌, ℕ, zero, suc, ◌+◌, ◌<◌, Bool, true, false, not, ◌&&◌, ◌==◌, ◌⊎◌, inl, inr, ⊎_elim, List, [], ◌∷◌, ◌++◌, map, filter, find, AllPairs, ◌≢◌, refl, sym, ap, subst, ◌∙◌, eqb-true, eq-eqb, ne_eqb, true≢false, arith}
-use Rattle.std.specs.Prelude.{Option, Some, None, IsTrue, ⊤, nat_le, nat_lt}
+use Rattle.std.specs.Prelude.{Option, Some, None, IsTrue, nat_le, nat_lt}
 use Rattle.std.specs.List.{list_any}
 use Rattle.std.proofs.lemmas.Bool.{cases_Bool, cond_both, and_parts}
 use Rattle.std.proofs.lemmas.Bool.Decides.{nat_tests}
@@ -21,7 +21,6 @@ use Rattle.genie_model.specs.Inputs.{pages_for, reusable, moved_in_of, weak_buff
 use Rattle.genie_model.specs.Orderly.{LiesInRegion, LiesInOrphan, Lies, orphan_numbers, NumbersDiffer, IsOrderly}
 use Rattle.genie_model.specs.Outputs.{output_of, moved_out_of, give_up}
 use Rattle.genie_model.specs.Pending.{is_just, names, names_weakly, covers, first_queued, pending, add_transfer}
-use Rattle.genie_model.specs.Refusing.{refuse}
 use Rattle.genie_model.specs.Regions.{extent_of, regions_of, regions_at, reach_of, is_region, has_number, region_numbered, is_orphan, orphan_numbered, is_within_range, byte_within, bytes_within, orphan_part, region_part, bytes_of, change_process, changed, changed_in, with_state, with_mode}
 use Rattle.genie_model.specs.Sending.{must_stage, send_next}
 use Rattle.genie_model.specs.Space.{spawned, with_region, add_region, zeros, zeros_at_place, placed, as_orphan, add_orphan, without_region, remove, remove_found, cut, is_named, tidy, starts_at, region_from, protect_found, accessible, copy_of, add_copies, add_orphans, exit}
@@ -30,7 +29,7 @@ use Rattle.genie_model.specs.Step.{perform, with_budget, step}
 use Rattle.genie_model.specs.Tables.{entry}
 use Rattle.genie_model.proofs.Among.{Among, among_has, has_among, among_left, among_right, among_map, among_filter, among_put, among_left_or_there, among_set}
 use Rattle.genie_model.proofs.Arriving.{choice}
-use Rattle.genie_model.proofs.Accepted.{spawn_accepted, fork_accepted}
+use Rattle.genie_model.proofs.Accepted.{Allowed, allowed}
 use Rattle.genie_model.proofs.Distinct.{numbers_differ}
 use Rattle.genie_model.proofs.Finding.{all_of, differ, numbers_in, no_orphan, number_has, found_at, IsThere, at_there, region_there}
 use Rattle.genie_model.proofs.Having.{Has, all_has, any_has, has_any, find_has, has_map, has_either, pairs_head, pairs_tail, pairs_right}
@@ -236,49 +235,38 @@ module _ (k x : ℕ) (b : List ℕ) where
   cancel_has s j None tells h = h
   cancel_has s j (Some t) tells h = given_up_has (without_transfer s j) t.class (region_of s t) tells (region_there s t) h
 
-  -- where a process comes, none was
-  abbrev IsVacant : State → Event → Type 0
-  IsVacant s (Spawn p) = entry s.processes p ≡ None
-  IsVacant s (Fork p q) = entry s.processes q ≡ None
-  IsVacant s _ = ⊤
-
-  vacant : (s : State) (e : Event) → refuse s e ≡ None → IsVacant s e
-  vacant s (Spawn p) h = spawn_accepted s p h
-  vacant s (Fork p q) h = (fork_accepted s p q h).free
-  vacant s e h = tt
-
   module _ (s : State) (tells : Tells s) (h : HasByte s) where
-    perform_has : (e : Event) → may_store e ≡ false → IsVacant s e → HasByte (perform s e).0
-    perform_has (Spawn p) quiet none = spawn_has s p none h
-    perform_has (Fork p q) quiet none = copies_have (spawned s q) q (accessible (regions_at s p)) (spawn_has s q none h)
-    perform_has (Exit p) quiet none = exit_has s p h
-    perform_has (Map p g n) quiet none = add_has s p (zeros s App Live g n) h
-    perform_has (Alloc p n) quiet none = add_has s p (zeros_at_place s Live p n) h
-    perform_has (Unmap p g) quiet none = unmap_has s (region_from s p g) tells (at_there s p (starts_at g)) h
-    perform_has (Protect p g writable) quiet none = protect_has s (region_from s p g) writable h
-    perform_has (Read p a n) quiet none = h
-    perform_has (Write p a bytes) quiet none = absurd (true≢false quiet)
-    perform_has (Output p sem d port flow a n) quiet none =
+    perform_has : (e : Event) → may_store e ≡ false → Allowed s e → HasByte (perform s e).0
+    perform_has (Spawn p) quiet may = spawn_has s p may h
+    perform_has (Fork p q) quiet may = copies_have (spawned s q) q (accessible (regions_at s p)) (spawn_has s q may.1 h)
+    perform_has (Exit p) quiet may = exit_has s p h
+    perform_has (Map p g n) quiet may = add_has s p (zeros s App Live g n) h
+    perform_has (Alloc p n) quiet may = add_has s p (zeros_at_place s Live p n) h
+    perform_has (Unmap p g) quiet may = unmap_has s (region_from s p g) tells (at_there s p (starts_at g)) h
+    perform_has (Protect p g writable) quiet may = protect_has s (region_from s p g) writable h
+    perform_has (Read p a n) quiet may = h
+    perform_has (Write p a bytes) quiet may = absurd (true≢false quiet)
+    perform_has (Output p sem d port flow a n) quiet may =
         let to : Address = record { device = d; port = port; flow = flow } in
         given_up_has (add_transfer s (output_of s p (class_of sem) to a n (reach_of s p a n))) (class_of sem) (reach_of s p a n) tells (at_there s p (λ r. is_reached s.config.page a n (extent_of r))) h
-    perform_has (Input p sem d port flow a n) quiet none = input_has s p (class_of sem) n h
-    perform_has (Send d n) quiet none = send_has s d n (first_queued s d) h
-    perform_has (Recv d n) quiet none = absurd (true≢false quiet)
-    perform_has (Finish j) quiet none = absurd (true≢false quiet)
-    perform_has (Cancel j) quiet none = cancel_has s j (pending s j) tells h
-    perform_has (Pageout n) quiet none = h
+    perform_has (Input p sem d port flow a n) quiet may = input_has s p (class_of sem) n h
+    perform_has (Send d n) quiet may = send_has s d n (first_queued s d) h
+    perform_has (Recv d n) quiet may = absurd (true≢false quiet)
+    perform_has (Finish j) quiet may = absurd (true≢false quiet)
+    perform_has (Cancel j) quiet may = cancel_has s j (pending s j) tells h
+    perform_has (Pageout n) quiet may = h
 
-    budget_has : (e : Event) (j : ℕ) → may_store e ≡ false → IsVacant s e → HasByte (perform s (with_budget e j)).0
-    budget_has (Send d n) j quiet none = perform_has (Send d j) refl tt
-    budget_has (Recv d n) j quiet none = absurd (true≢false quiet)
-    budget_has e j quiet none = perform_has e quiet none
+    budget_has : (e : Event) (j : ℕ) → may_store e ≡ false → Allowed s e → HasByte (perform s (with_budget e j)).0
+    budget_has (Send d n) j quiet may = perform_has (Send d j) refl may
+    budget_has (Recv d n) j quiet may = absurd (true≢false quiet)
+    budget_has e j quiet may = perform_has e quiet may
 
     -- where it is still covered
     abbrev Lasts : State → Type 0
     Lasts t = list_any (covers k x) t.transfers ≡ true → HasByte t
 
     step_lasts : (e : Event) (m : Mark) → may_store e ≡ false → Lasts (step s e m).0
-    step_lasts e m quiet = event_so Lasts s (λ _. h) e (λ none. tidy_has (perform s e).0 (perform_has e quiet (vacant s e none))) (λ none j. tidy_has (perform s (with_budget e j)).0 (budget_has e j quiet (vacant s e none))) m
+    step_lasts e m quiet = event_so Lasts s (λ _. h) e (λ none. tidy_has (perform s e).0 (perform_has e quiet (allowed s e none))) (λ none j. tidy_has (perform s (with_budget e j)).0 (budget_has e j quiet (allowed s e none))) m
 
 lies_named : (s : State) (u : Transfer) (named : Option ℕ) (k : ℕ) → is_just named k ≡ true → Lies s u named → Lies s u (Some k)
 lies_named s u None k e h = absurd (cc)

@@ -18,6 +18,7 @@ pub mod Collecting
 pub mod Counting
 pub mod Covered
 pub mod Distinct
+pub mod Events
 pub mod Finding
 pub mod Finishing
 pub mod First

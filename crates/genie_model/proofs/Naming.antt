@@ -1,5 +1,5 @@
 -- Which transfers name a region, and how many, where transfers are added, changed and taken away.
-use Rattle.std.proofs.Common.{◌≡◌, ℕ, ◌+◌, ◌≤◌, Bool, true, false, ◌&&◌, ◌||◌, ◌⊎◌, ⊎_elim, List, [], ◌∷◌, ◌++◌, map, filter, find, count_by, cond, All, refl, sym, ap, ap₂, ◌∙◌, true≢false, arith}
+use Rattle.std.proofs.Common.{◌≡◌, ℕ, ◌+◌, ◌≤◌, Bool, true, false, ◌||◌, ◌⊎◌, ⊎_elim, List, [], ◌∷◌, ◌++◌, map, filter, find, count_by, cond, All, refl, sym, ap, ◌∙◌, true≢false, arith, subst}
 use Rattle.std.specs.Prelude.{Some}
 use Rattle.std.specs.List.{list_any}
 use Rattle.std.proofs.lemmas.Bool.{cases_Bool, cond_both, and_parts, or_cases, or_left, or_right, or_parts, and_left}
@@ -7,11 +7,12 @@ use Rattle.std.proofs.lemmas.List.Elements.{All-cons, All-head, All-tail, All-pu
 use Rattle.std.proofs.lemmas.List.Sums.{sum_by-cons, sum_by_push}
 use Rattle.genie_model.specs.State.{State, Transfer}
 use Rattle.genie_model.specs.Tables.{change, without}
-use Rattle.genie_model.specs.Pending.{is_just, names}
+use Rattle.genie_model.specs.Pending.{names}
 use Rattle.genie_model.specs.Space.{is_move}
 use Rattle.genie_model.specs.Orderly.{moves_into}
 use Rattle.genie_model.proofs.Having.{any_append}
 use Rattle.genie_model.proofs.Standing.{Fine, One, Stand}
+use Rattle.genie_model.proofs.Remaining.{KeepsCall}
 
 abbrev as_one : Bool → ℕ
 as_one b = cond b 1 0
@@ -101,14 +102,13 @@ none_left ts p t k one found named = ⊎_elim
     absurd (omega arith))
     (λ f. f) (cases_Bool (list_any (moves_into k) (without p ts)))
 
--- a change that leaves what a transfer names
-pub stand_change : (s : State) (transfers : List Transfer) (p : Transfer → Bool) (f : Transfer → Transfer) → ((u : Transfer) → Fine s u u.class u.region → Fine s (f u) (f u).class (f u).region)
-    → ((u : Transfer) → (f u).class ≡ u.class) → ((u : Transfer) → (f u).region ≡ u.region) → Stand s transfers → Stand s (change p f transfers)
-stand_change s ts p f fine class region h =
-    let moves = λ (k : ℕ) (u : Transfer). ap₂ (λ c n. is_move c && is_just n k) (class u) (region u) in
-    let named = λ (k : ℕ) (u : Transfer). ap (λ n. is_just n k) (region u) in
+-- a transfer is changed that keeps its call
+pub stand_change : (s : State) (transfers : List Transfer) (p : Transfer → Bool) (f : Transfer → Transfer) → KeepsCall f → Stand s transfers → Stand s (change p f transfers)
+stand_change s ts p f call h =
+    let moves = λ (k : ℕ) (u : Transfer). ap (moves_into k) (call u) in
+    let named = λ (k : ℕ) (u : Transfer). ap (names k) (call u) in
     record {
-      each = all_change (fine_in s) p f fine ts h.each;
+      each = all_change (fine_in s) p f (λ u fine. subst (fine_in s) (sym (call u)) fine) ts h.each;
       one = fewer (change p f ts) ts (λ k e. sym (any_change (moves_into k) p f (moves k) ts) ∙ e) (λ k. omega (arith, count_change (names k) p f (named k) ts)) h.one;
     }
 

@@ -1,6 +1,6 @@
 -- What each event does to the transfers that wait for a device, and to what it receives.
 use Rattle.std.proofs.Common.{◌≡◌, ℕ, ◌+◌, ◌≤◌, Bool, true, false, not, ◌==◌, ⊎_elim, List, [], ◌∷◌, ◌++◌, length, map, filter, append-nil, ◌≢◌, refl, sym, ap, subst, ◌∙◌, eqb-true, ne_eqb, true≢false, arith}
-use Rattle.std.specs.Prelude.{Option, Some, None, ⊤, slice_set, drop, if◌then◌else◌, is_some}
+use Rattle.std.specs.Prelude.{Option, Some, None, slice_set, drop, if◌then◌else◌, is_some}
 use Rattle.std.proofs.lemmas.Bool.{cases_Bool, cases_eq, cond_both, cond-true, cond-false, and_left, and_right, and_parts, not-false}
 use Rattle.std.proofs.lemmas.List.{length-take-le, length-drop}
 use Rattle.genie_base.specs.Configs.{Config, DeviceConfig}
@@ -10,7 +10,6 @@ use Rattle.genie_base.specs.Transfers.{class_of, is_strong}
 use Rattle.genie_base.specs.declared.event.Event.{Event}
 use Rattle.genie_base.specs.declared.event.Event.TheVariants.{Fork, Exit, Unmap, Protect, Write, Output, Input, Send, Recv, Finish, Cancel}
 use Rattle.genie_base.specs.declared.refusal.Refusal.{Refusal}
-use Rattle.genie_base.specs.declared.refusal.Refusal.TheVariants.{Proc}
 use Rattle.genie_base.specs.declared.reply.Mark.{Mark}
 use Rattle.genie_base.specs.declared.reply.Reply.TheVariants as reply
 use Rattle.genie_base.specs.declared.semantics.Class.{Class}
@@ -24,7 +23,7 @@ use Rattle.genie_model.specs.State.{State, Region, Transfer, Device, Datagram}
 use Rattle.genie_model.specs.Tables.{without, entry}
 use Rattle.genie_model.specs.Regions.{place_in, reach_of, regions_at}
 use Rattle.genie_model.specs.Pending.{is_queued, is_posted, is_ready, is_just, is_numbered, pending, waits_for, first_queued, add_transfer}
-use Rattle.genie_model.specs.Refusing.{has_output, is_finished, may_cancel, causes, refuse}
+use Rattle.genie_model.specs.Refusing.{has_output, is_finished, may_cancel}
 use Rattle.genie_model.specs.Space.{Outcome, region_from, spawned, accessible, bytes_reached, is_move, disowned, is_posted_by, exit}
 use Rattle.genie_model.specs.Outputs.{place_reached, number_of, output_of, give_up}
 use Rattle.genie_model.specs.Inputs.{posted, with_buffer}
@@ -34,7 +33,6 @@ use Rattle.genie_model.specs.Ending.{finish_found, cancel_found, without_transfe
 use Rattle.genie_model.specs.Orderly.{IsOrderly}
 use Rattle.genie_model.specs.Integrity.{Accepted, accepted, WasThere}
 use Rattle.genie_model.specs.Step.{accept, perform, failed, may_fail, step}
-use Rattle.genie_model.proofs.Causes.{none_holds, second_holds}
 use Rattle.genie_model.proofs.Having.{entry_set}
 use Rattle.genie_model.proofs.Quiet.{recv_quiet}
 use Rattle.genie_model.proofs.Staying.{reached}
@@ -45,6 +43,7 @@ use Rattle.genie_model.proofs.Turning.{Turn, still, called, turn_free}
 use Rattle.genie_model.proofs.Advancing.{TurnTo, none, send_here}
 use Rattle.genie_model.proofs.Aside.{SameBut, copies_like, remove_like, protect_like, stored_like, given_up_like, buffer_like, finish_for_like}
 use Rattle.genie_model.proofs.Stepping.{outcome_so}
+use Rattle.genie_model.proofs.Accepted.{Allowed, allowed}
 
 -- the transfers that wait take a turn, and datagrams still meet others
 abbrev pub Goes : ℕ → State → State → (List State → List Accepted) → Type 0
@@ -232,14 +231,6 @@ recv_goes d s dev n o meets =
     let k = recv_keeps d s dev n o.transfers meets in
     (still k.queue ((recv_quiet s dev n).sent d) (λ later. refl), rw (k.queue, k.next, k.config) k.meets)
 
--- what is known of an event that isn't refused
-abbrev Allowed : State → Event → Type 0
-Allowed s (Output p sem d port flow a n) = is_some (reach_of s p a n) ≡ true
-Allowed s (Send d n) = has_output (entry s.config.devices d) ≡ true
-Allowed s (Finish k) = is_finished (pending s k) ≡ true
-Allowed s (Cancel k) = may_cancel (pending s k) ≡ true
-Allowed s e = ⊤
-
 perform_goes : (d : ℕ) (s : State) (e : Event) → IsOrderly s → AreWaiting (queue d s.transfers) → Meets d s → Allowed s e → Goes d s (perform s e).0 (accepted d s e (perform s e).1)
 perform_goes d s (Fork p q) o w meets may = quiet d s meets _ (copies_like (spawned s q) q (accessible (regions_at s p)))
 perform_goes d s (Exit p) o w meets may = exit_goes d s p meets
@@ -273,13 +264,6 @@ failed_goes : (d : ℕ) (s : State) (e : Event) (k : ℕ) → IsOrderly s → Ar
 failed_goes d s (Send dev n) k o w meets may fails = cond_both (k == 0) s (accept s (Send dev k)).0 (λ t. Goes d s t none) (λ _. stays d s none meets (λ later. refl)) (λ _. accept_goes d s (Send dev k) o w meets may)
 failed_goes d s (Recv dev n) k o w meets may fails = cond_both (k == 0) s (accept s (Recv dev k)).0 (λ t. Goes d s t none) (λ _. stays d s none meets (λ later. refl)) (λ _. accept_goes d s (Recv dev k) o w meets may)
 failed_goes d s e k o w meets may fails = absurd (true≢false (sym fails))
-
-allowed : (s : State) (e : Event) → refuse s e ≡ None → Allowed s e
-allowed s (Output p sem d port flow a n) e = second_holds _ _ (none_holds (causes s (Output p sem d port flow a n)) e 2 (true, Proc) (omega arith))
-allowed s (Send d n) e = not-false (has_output (entry s.config.devices d)) (none_holds (causes s (Send d n)) e 0 (true, Proc) (omega arith))
-allowed s (Finish k) e = not-false (is_finished (pending s k)) (none_holds (causes s (Finish k)) e 0 (true, Proc) (omega arith))
-allowed s (Cancel k) e = not-false (may_cancel (pending s k)) (none_holds (causes s (Cancel k)) e 0 (true, Proc) (omega arith))
-allowed s e h = tt
 
 -- one step
 pub step_goes : (d : ℕ) (s : State) (e : Event) (m : Mark) → IsOrderly s → AreWaiting (queue d s.transfers) → Meets d s → Goes d s (step s e m).0 (accepted d s e (step s e m).1)

@@ -6,7 +6,7 @@ use Rattle.genie_model.specs.State.{State, Device}
 use Rattle.genie_model.specs.Tables.{entry}
 use Rattle.genie_model.specs.Orderly.{shape_of}
 use Rattle.genie_model.specs.Sending.{change_device}
-use Rattle.genie_model.specs.Receiving.{receiving, receive, recv}
+use Rattle.genie_model.specs.Receiving.{receiving, recv}
 use Rattle.genie_model.proofs.Having.{entry_set}
 use Rattle.genie_model.proofs.Arriving.{recv_does, any_answer}
 

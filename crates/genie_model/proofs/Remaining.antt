@@ -1,7 +1,7 @@
 -- What a step leaves of the pending transfers: some end, and the others keep number, cost and the places they cover.
-use Rattle.std.proofs.Common.{◌≡◌, ℕ, zero, suc, ◌<◌, ◌≤◌, Bool, true, false, ◌==◌, ⊎_elim, List, [], ◌∷◌, length, find, refl, ap, subst, ◌∙◌, eqb-true, arith}
+use Rattle.std.proofs.Common.{◌≡◌, ℕ, zero, suc, ◌<◌, ◌≤◌, Bool, true, false, ◌==◌, ⊎_elim, List, [], ◌∷◌, length, find, refl, ap, subst, ◌∙◌, eqb-true, arith, ◌+◌}
 use Rattle.std.specs.Prelude.{Some, cond, if◌then◌else◌, filter, map, sum_by, All, AllPairs}
-use Rattle.std.proofs.lemmas.Bool.{cases_Bool}
+use Rattle.std.proofs.lemmas.Bool.{cases_Bool, cond_both}
 use Rattle.std.proofs.lemmas.Bool.Decides.{nat_tests}
 use Rattle.std.proofs.lemmas.List.Elements.{All-cons, All-head, All-tail}
 use Rattle.std.proofs.lemmas.List.Kept.{AllPairs-cons}
@@ -9,6 +9,8 @@ use Rattle.std.proofs.lemmas.List.Sums.{sum_by-cons}
 use Rattle.genie_model.specs.State.{Transfer}
 use Rattle.genie_model.specs.Pending.{cost_of, is_numbered, covers}
 use Rattle.genie_model.specs.Tables.{change, without}
+use Rattle.genie_model.specs.Sending.{unsent, after_sending}
+use Rattle.genie_model.specs.declared.phase.Phase.TheVariants.{Ready}
 use Rattle.genie_model.proofs.Having.{find_has, pairs_head, pairs_tail}
 
 -- u is what became of t
@@ -33,8 +35,15 @@ pub remain : (ts : List Transfer) → Remain ts ts
 remain [] = none
 remain (t ∷ ts) = stays (same t) (remain ts)
 
--- only what has become of its bytes differs
-pub alike : {t u : Transfer} → u ≡ record t { phase = u.phase; payload = u.payload; staged = u.staged; moved = u.moved; stored = u.stored; note = u.note } → Same t u
+-- all that it changes of a transfer is what has become of its bytes
+abbrev pub KeepsCall : (Transfer → Transfer) → Type 0
+KeepsCall f = (t : Transfer) → f t ≡ record t { phase = (f t).phase; payload = (f t).payload; staged = (f t).staged; moved = (f t).moved; stored = (f t).stored; note = (f t).note }
+
+pub sending_call : (k : ℕ) → KeepsCall (after_sending k)
+sending_call k t = cond_both (k == unsent t) (record t { moved = t.moved + k; phase = Ready; payload = [] }) (record t { moved = t.moved + k })
+    (λ (u : Transfer). u ≡ record t { phase = u.phase; payload = u.payload; staged = u.staged; moved = u.moved; stored = u.stored; note = u.note }) (λ _. refl) (λ _. refl)
+
+alike : {t u : Transfer} → u ≡ record t { phase = u.phase; payload = u.payload; staged = u.staged; moved = u.moved; stored = u.stored; note = u.note } → Same t u
 alike e = record { number = ap (λ (x : Transfer). x.number) e; cost = λ page. ap (cost_of page) e; covered = λ k x. ap (covers k x) e }
 
 pub same_later : {t u v : Transfer} → Same t u → Same u v → Same t v
@@ -47,9 +56,9 @@ remain_later (stays s p) (ends q) = ends (remain_later p q)
 remain_later (stays s p) (stays r q) = stays (same_later s r) (remain_later p q)
 
 module _ (p : Transfer → Bool) where
-  pub change_remain : (f : Transfer → Transfer) → ((t : Transfer) → Same t (f t)) → (ts : List Transfer) → Remain ts (change p f ts)
+  pub change_remain : (f : Transfer → Transfer) → KeepsCall f → (ts : List Transfer) → Remain ts (change p f ts)
   change_remain f h [] = none
-  change_remain f h (t ∷ ts) = elim (p t) as (λ b. Remain (t ∷ ts) (cond b (f t ∷ ts) (t ∷ change p f ts))) [ true ↦ stays (h t) (remain ts) | false ↦ stays (same t) (change_remain f h ts) ]
+  change_remain f h (t ∷ ts) = elim (p t) as (λ b. Remain (t ∷ ts) (cond b (f t ∷ ts) (t ∷ change p f ts))) [ true ↦ stays (alike (h t)) (remain ts) | false ↦ stays (same t) (change_remain f h ts) ]
 
   pub without_remain : (ts : List Transfer) → Remain ts (without p ts)
   without_remain [] = none

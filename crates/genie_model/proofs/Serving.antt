@@ -1,27 +1,21 @@
 -- What transfers name is there after every step.
-use Rattle.std.proofs.Common.{◌≡◌, ℕ, ◌<◌, Bool, true, false, List, length, refl, true≢false, arith}
-use Rattle.std.specs.Prelude.{Option, Some, None, ⊤, ◌==◌, is_some}
-use Rattle.std.proofs.lemmas.Bool.{and_parts, not-false}
+use Rattle.std.proofs.Common.{◌≡◌, ℕ, Bool, true, List, length, refl}
+use Rattle.std.specs.Prelude.{Option, Some, None, ◌==◌, is_some}
+use Rattle.std.proofs.lemmas.Bool.{and_parts}
 use Rattle.genie_base.specs.Regions.{is_accessible}
-use Rattle.genie_base.specs.Transfers.{class_of, is_system}
+use Rattle.genie_base.specs.Transfers.{class_of}
 use Rattle.genie_base.specs.declared.event.Event.{Event}
 use Rattle.genie_base.specs.declared.event.Event.TheVariants.{Spawn, Fork, Exit, Map, Alloc, Unmap, Protect, Read, Write, Output, Input, Send, Recv, Finish, Cancel, Pageout}
-use Rattle.genie_base.specs.declared.refusal.Refusal.TheVariants as cause
 use Rattle.genie_base.specs.declared.region.Area.TheVariants.{App}
 use Rattle.genie_base.specs.declared.region.RegionState.TheVariants.{Live}
 use Rattle.genie_base.specs.declared.reply.Mark.{Mark}
-use Rattle.genie_base.specs.declared.semantics.Class.{Class}
-use Rattle.genie_base.specs.declared.semantics.Class.TheVariants.{Copy, Share, Move, WeakMove}
-use Rattle.genie_model.specs.Refusing.{first_cause, causes, target_causes, refuse}
 use Rattle.genie_model.specs.State.{State, Region}
 use Rattle.genie_model.specs.Tables.{entry}
-use Rattle.genie_model.specs.Regions.{regions_at, is_alive, place_in, reach_of}
+use Rattle.genie_model.specs.Regions.{regions_at, place_in, reach_of}
 use Rattle.genie_model.specs.Pending.{pending}
-use Rattle.genie_model.specs.Inputs.{address_or_zero}
 use Rattle.genie_model.specs.Space.{zeros, zeros_at_place, remove_found, region_from, starts_at, protect_found, stored}
 use Rattle.genie_model.specs.Step.{perform, accept, with_budget, step}
 use Rattle.genie_model.specs.Orderly.{RangesLie, HeldForOne, IsOrderly}
-use Rattle.genie_model.proofs.Causes.{none_holds, second_holds, both_none}
 use Rattle.genie_model.proofs.Having.{find_has}
 use Rattle.genie_model.proofs.Finding.{has_region}
 use Rattle.genie_model.proofs.Standing.{orderly_stand, accessible_free, tidied_ranges, tidied_holds}
@@ -32,35 +26,11 @@ use Rattle.genie_model.proofs.Landing.{sent_stands, received_stands}
 use Rattle.genie_model.proofs.Finishing.{finished_stands, cancelled_stands}
 use Rattle.genie_model.proofs.Unused.{few_numbers}
 use Rattle.genie_model.proofs.Stepping.{event_so}
-use Rattle.genie_model.proofs.Accepted.{spawn_accepted, fork_accepted}
-
--- what is known of an event that isn't refused
-abbrev Allowed : State → Event → Type 0
-Allowed s (Spawn p) = entry s.processes p ≡ None
-Allowed s (Fork p q) = (q < 16) × (entry s.processes q ≡ None)
-Allowed s (Output p sem d port flow a n) = is_some (reach_of s p a n) ≡ true
-Allowed s (Input p sem d port flow a n) = (is_alive s p ≡ true) × (is_system (class_of sem) ≡ false → is_some (reach_of s p (address_or_zero a) n) ≡ true)
-Allowed s _ = ⊤
+use Rattle.genie_model.proofs.Accepted.{Allowed, allowed, budget_allowed}
 
 alive_entry : {X : Type 0} (o : Option X) → is_some o ≡ true → (x : X) × (o ≡ Some x)
 alive_entry None e = absurd (cc)
 alive_entry (Some x) e = (x, refl)
-
--- a buffer of the application's is reached
-app_here : (s : State) (p : ℕ) (class : Class) (d a n : ℕ) → first_cause (target_causes s p class d a n) ≡ None → is_system class ≡ false → is_some (reach_of s p a n) ≡ true
-app_here s p Copy d a n e app = second_holds _ _ (none_holds (target_causes s p Copy d a n) e 2 (true, cause.Proc) (omega arith))
-app_here s p Share d a n e app = second_holds _ _ (none_holds (target_causes s p Share d a n) e 2 (true, cause.Proc) (omega arith))
-app_here s p Move d a n e app = absurd (true≢false app)
-app_here s p WeakMove d a n e app = absurd (true≢false app)
-
-allowed : (s : State) (e : Event) → refuse s e ≡ None → Allowed s e
-allowed s (Spawn p) h = spawn_accepted s p h
-allowed s (Fork p q) h = let new = fork_accepted s p q h in (new.place, new.free)
-allowed s (Output p sem d port flow a n) h = second_holds _ _ (none_holds (causes s (Output p sem d port flow a n)) h 2 (true, cause.Proc) (omega arith))
-allowed s (Input p sem d port flow a n) h =
-    let none = (both_none (target_causes s p (class_of sem) d (address_or_zero a) n) _ h).0 in
-    (not-false (is_alive s p) (none_holds (target_causes s p (class_of sem) d (address_or_zero a) n) none 0 (true, cause.Proc) (omega arith)), app_here s p (class_of sem) d (address_or_zero a) n none)
-allowed s e h = tt
 
 remove_stands_found : (s : State) (p g : ℕ) (o : Option Region) → IsOrderly s → region_from s p g ≡ o → Stands s → Stands (remove_found s o)
 remove_stands_found s p g None o e h = h
@@ -108,11 +78,6 @@ accept_well s e o may =
     let t : State = (perform s e).0 in
     let h = perform_stands s e o may (orderly_stand s o) in
     record { ranges = tidied_ranges t h; holds = tidied_holds t h }
-
-budget_allowed : (s : State) (e : Event) (k : ℕ) → Allowed s e → Allowed s (with_budget e k)
-budget_allowed s (Send d n) k h = tt
-budget_allowed s (Recv d n) k h = tt
-budget_allowed s e k h = h
 
 pub step_well : (s : State) (e : Event) (m : Mark) → IsOrderly s → NamesWell (step s e m).0
 step_well s e m o = event_so NamesWell s (same s o) e (λ none. accept_well s e o (allowed s e none)) (λ none k. accept_well s (with_budget e k) o (budget_allowed s e k (allowed s e none))) m

@@ -1,27 +1,21 @@
 -- The events that make no region: what becomes of the tables of processes.
-use Rattle.std.proofs.Common.{◌≡◌, ℕ, zero, suc, ◌+◌, ◌≤◌, Bool, true, false, not, List, [], ◌∷◌, ◌++◌, length, map, refl, ◌∙◌, arith, length-set}
+use Rattle.std.proofs.Common.{◌≡◌, ℕ, zero, suc, ◌+◌, ◌≤◌, true, false, not, List, [], ◌∷◌, ◌++◌, length, map, refl, ◌∙◌, arith, length-set}
 use Rattle.std.specs.Prelude.{Option, Some, None, All, cond, sum_by, slice_set, slice_index_or, replicate, ◌==◌}
 use Rattle.std.proofs.lemmas.List.{length-map, length-replicate}
 use Rattle.std.proofs.lemmas.List.Elements.{All-map, All-weaker, All-set}
 use Rattle.std.proofs.lemmas.List.Sums.{sum_by-cons}
 use Rattle.genie_base.proofs.Overlaid.{length-overlaid}
-use Rattle.genie_base.specs.Configs.{Config, most}
+use Rattle.genie_base.specs.Configs.{Config}
 use Rattle.genie_base.specs.declared.region.RegionState.{RegionState}
-use Rattle.genie_base.specs.declared.region.RegionState.TheVariants.{Live, Out, In}
-use Rattle.genie_base.specs.declared.semantics.Class.{Class}
-use Rattle.genie_base.specs.declared.semantics.Class.TheVariants.{Move, WeakMove}
+use Rattle.genie_base.specs.declared.region.RegionState.TheVariants.{Out, In}
 use Rattle.genie_model.specs.Orderly.{AreApart}
-use Rattle.genie_model.specs.State.{State, Region, Process, Transfer}
-use Rattle.genie_model.specs.Regions.{regions_of, region_pages, is_region, has_number, change_process, changed, changed_in, change_region, with_bytes, with_state, with_mode, put}
-use Rattle.genie_model.specs.Space.{spawned, without_region, remove, remove_found, protect_found, exit, stored}
-use Rattle.genie_model.specs.Outputs.{moved_out_of, moved_out, give_up}
+use Rattle.genie_model.specs.State.{State, Region, Process}
+use Rattle.genie_model.specs.Regions.{regions_of, region_pages, is_region, has_number, change_process, changed, changed_in, change_region, with_bytes, with_state, put}
+use Rattle.genie_model.specs.Space.{spawned, without_region, remove, exit}
+use Rattle.genie_model.specs.Outputs.{moved_out_of, moved_out}
 use Rattle.genie_model.specs.Inputs.{moved_in_of, moved_in}
-use Rattle.genie_model.specs.Sending.{must_stage, send_next}
-use Rattle.genie_model.specs.Receiving.{recv}
-use Rattle.genie_model.specs.Ending.{filled, finish_found, cancel_found, without_transfer, region_of}
+use Rattle.genie_model.specs.Ending.{filled}
 use Rattle.genie_model.proofs.Apart.{SameShape, same_shape, Lessens, none_lessens, reshaped, fewer, mapped_sum}
-use Rattle.genie_model.proofs.Arriving.{choice, recv_keeps}
-use Rattle.genie_model.proofs.Closing.{finish_for_keeps}
 
 -- as many processes, apart where these were, of no more pages in all
 pub record Shrinks (old new : List (Option Process)) : Type 0 where
@@ -77,63 +71,30 @@ spawned_keeps s p = record { config = refl; table = emptied s.processes p (Some 
 pub exit_keeps : (s : State) (p : ℕ) → Keeps s (exit s p).0
 exit_keeps s p = record { config = refl; table = emptied s.processes p None refl }
 
-remove_keeps : (s : State) (r : Region) → Keeps s (remove s r)
+pub remove_keeps : (s : State) (r : Region) → Keeps s (remove s r)
 remove_keeps s r = record { config = refl; table = in_each (without_region r.number) (λ p. fewer (λ q. not (is_region r.number q)) p.regions) s.processes }
 
 changed_shape : (k : ℕ) (f : Region → Region) → ((r : Region) → SameShape r (f r)) → (r : Region) → SameShape r (changed k f r)
 changed_shape k f same r = elim (r.number == k) as (λ b. SameShape r (cond b (f r) r)) [ true ↦ same r | false ↦ same_shape r ]
 
-change_keeps : (s : State) (k : ℕ) (f : Region → Region) → ((r : Region) → SameShape r (f r)) → Keeps s (change_region s k f)
+pub change_keeps : (s : State) (k : ℕ) (f : Region → Region) → ((r : Region) → SameShape r (f r)) → Keeps s (change_region s k f)
 change_keeps s k f same = record { config = refl; table = in_each (changed_in k f) (λ p. reshaped (changed k f) (changed_shape k f same) p.regions) s.processes }
 
-state_shape : (state : RegionState) (r : Region) → SameShape r (with_state state r)
+pub state_shape : (state : RegionState) (r : Region) → SameShape r (with_state state r)
 state_shape state r = record { start = refl; pages = refl; area = refl; bytes = refl }
 
-filled_shape : (bytes : List ℕ) (r : Region) → SameShape r (filled bytes r)
+pub filled_shape : (bytes : List ℕ) (r : Region) → SameShape r (filled bytes r)
 filled_shape bytes r = record { start = refl; pages = refl; area = refl; bytes = length-overlaid 0 bytes (replicate (length r.bytes) 0) ∙ length-replicate (length r.bytes) 0 }
 
-put_keeps : (s : State) (k x : ℕ) (new : List ℕ) → Keeps s (put s k x new)
+pub put_keeps : (s : State) (k x : ℕ) (new : List ℕ) → Keeps s (put s k x new)
 put_keeps s k x new = change_keeps s k (with_bytes x new) (λ r. record { start = refl; pages = refl; area = refl; bytes = length-overlaid x new r.bytes })
 
 out_lessens : (k : ℕ) (p : Process) → Lessens p.regions (moved_out_of k p).regions
 out_lessens k p = elim (has_number k (Some p)) as (λ b. Lessens p.regions (cond b (record { queue = p.queue ++ k ∷ []; regions = map (changed k (with_state Out)) p.regions }) p).regions)
     [ true ↦ reshaped (changed k (with_state Out)) (changed_shape k (with_state Out) (state_shape Out)) p.regions | false ↦ record { apart = λ page h. h; pages = omega arith } ]
 
-moved_out_keeps : (s : State) (k : ℕ) → Keeps s (moved_out s k)
+pub moved_out_keeps : (s : State) (k : ℕ) → Keeps s (moved_out s k)
 moved_out_keeps s k = record { config = refl; table = in_each (moved_out_of k) (out_lessens k) s.processes }
 
 pub moved_in_keeps : (s : State) (k : ℕ) → Keeps s (moved_in s k)
 moved_in_keeps s k = record { config = refl; table = in_each (moved_in_of k) (λ p. reshaped (changed k (with_state In)) (changed_shape k (with_state In) (state_shape In)) p.regions) s.processes }
-
-pub unmap_keeps : (s : State) (o : Option Region) → Keeps s (remove_found s o)
-unmap_keeps s None = still s
-unmap_keeps s (Some r) = remove_keeps s r
-
-pub protect_keeps : (s : State) (o : Option Region) (writable : Bool) → Keeps s (protect_found s o writable)
-protect_keeps s None writable = still s
-protect_keeps s (Some r) writable = change_keeps s r.number (with_mode writable) (λ q. record { start = refl; pages = refl; area = refl; bytes = refl })
-
-pub stored_keeps : (s : State) (o : Option Region) (a : ℕ) (bytes : List ℕ) → Keeps s (stored s o a bytes)
-stored_keeps s None a bytes = still s
-stored_keeps s (Some r) a bytes = put_keeps s r.number _ bytes
-
-pub given_up_keeps : (s : State) (class : Class) (o : Option Region) → Keeps s (give_up s class o)
-given_up_keeps s class None = still s
-given_up_keeps s Move (Some r) = remove_keeps s r
-given_up_keeps s WeakMove (Some r) = moved_out_keeps s r.number
-given_up_keeps s class (Some r) = still s
-
-pub send_keeps : (s : State) (d n : ℕ) (o : Option Transfer) → Keeps s (send_next s d n o).0
-send_keeps s d n None = still s
-send_keeps s d n (Some t) = choice (Keeps s) (must_stage s d t) _ _ (still s) (still s)
-
-pub finish_keeps : (s : State) (k : ℕ) (o : Option Transfer) → Keeps s (finish_found s k o).0
-finish_keeps s k None = still s
-finish_keeps s k (Some t) = finish_for_keeps (Keeps s) (λ u j x new h. chained h (put_keeps u j x new)) (λ u j new h. chained h (change_keeps u j (filled new) (filled_shape new))) (λ u j h. chained h (change_keeps u j (with_state Live) (state_shape Live))) (without_transfer s k) t t.owner (still s)
-
-pub cancel_keeps : (s : State) (k : ℕ) (o : Option Transfer) → Keeps s (cancel_found s k o).0
-cancel_keeps s k None = still s
-cancel_keeps s k (Some t) = given_up_keeps (without_transfer s k) t.class (region_of s t)
-
-pub received_keeps : (s : State) (d n : ℕ) → Keeps s (recv s d n).0
-received_keeps s d n = recv_keeps (Keeps s) (λ t d v h. h) (λ t k f e h. h) (λ t k x new h. chained h (put_keeps t k x new)) s d n (still s)

@@ -10,7 +10,7 @@ use Rattle.genie_base.specs.Configs.{Config}
 use Rattle.genie_base.specs.Regions.{AreInOrder, is_accessible}
 use Rattle.genie_base.specs.Transfers.{class_of}
 use Rattle.genie_base.specs.declared.event.Event.{Event}
-use Rattle.genie_base.specs.declared.event.Event.TheVariants.{Spawn, Fork, Exit, Map, Alloc, Unmap, Protect, Read, Write, Output, Input, Send, Recv, Finish, Cancel, Pageout}
+use Rattle.genie_base.specs.declared.event.Event.TheVariants.{Spawn, Fork, Map, Alloc, Input, Send, Recv}
 use Rattle.genie_base.specs.declared.region.Area.TheVariants.{App, Sys}
 use Rattle.genie_base.specs.declared.region.RegionState.TheVariants.{Live, In, Held}
 use Rattle.genie_base.specs.declared.semantics.Class.{Class}
@@ -18,19 +18,20 @@ use Rattle.genie_base.specs.declared.semantics.Class.TheVariants.{Copy, Share, M
 use Rattle.genie_model.specs.Inputs.{with_buffer, weak_buffer, reusable, pages_for}
 use Rattle.genie_model.specs.Laws.{Stays}
 use Rattle.genie_model.specs.Orderly.{IsOrderly, IsRegion, AreApart, RegionsAreApart, CommittedIsBounded}
-use Rattle.genie_model.specs.Pending.{first_queued, pending, add_transfer}
 use Rattle.genie_model.specs.Refusing.{refuse, must_make, accessible_pages}
-use Rattle.genie_model.specs.Regions.{extent_of, regions_of, regions_at, region_pages, committed, place_of, reach_of, change_process}
-use Rattle.genie_model.specs.Space.{spawned, zeros, zeros_at_place, with_region, add_region, region_from, accessible, copy_of, add_copies, fork}
+use Rattle.genie_model.specs.Regions.{extent_of, regions_of, regions_at, region_pages, committed, place_of, change_process, with_mode, with_state}
+use Rattle.genie_model.specs.Space.{spawned, zeros, zeros_at_place, with_region, add_region, accessible, copy_of, add_copies, fork}
 use Rattle.genie_model.specs.State.{State, Region, Process}
 use Rattle.genie_model.specs.Step.{accept, perform, with_budget}
 use Rattle.genie_model.specs.Tables.{entry}
+use Rattle.genie_model.specs.Ending.{filled}
 use Rattle.genie_model.proofs.Accepted.{IsNew, map_accepted, alloc_accepted, input_accepted, fork_accepted, page_some}
 use Rattle.genie_model.proofs.Apart.{Before, all_added, sum_added, one_more, clear}
 use Rattle.genie_model.proofs.Forking.{added_few}
-use Rattle.genie_model.proofs.Shrinking.{KeepsTable, set_sum, spawned_keeps, exit_keeps, unmap_keeps, protect_keeps, stored_keeps, given_up_keeps, moved_in_keeps, send_keeps, received_keeps, finish_keeps, cancel_keeps}
+use Rattle.genie_model.proofs.Shrinking.{KeepsTable, set_sum, spawned_keeps, exit_keeps, remove_keeps, change_keeps, put_keeps, moved_out_keeps, moved_in_keeps, filled_shape, state_shape}
 use Rattle.genie_model.proofs.Stepping.{event_so}
 use Rattle.genie_model.proofs.Having.{at_entry, pairs_all, pairs_tail}
+use Rattle.genie_model.proofs.Events.{IsKept, event_kept}
 
 -- 16 processes, whose regions are apart and fit the store
 pub record SpacedTable (c : Config) (processes : List (Option Process)) : Type 0 where
@@ -163,27 +164,29 @@ input_spaced s p Share n new h = h
 input_spaced s p Move n new h = added s p (zeros_at_place s Held p (pages_for s n)) (new refl) (length-replicate (pages_for s n * s.config.page) 0) h
 input_spaced s p WeakMove n new h = weak_spaced s p n (reusable s p (pages_for s n)) new h
 
+spaced_kept : IsKept IsSpaced
+spaced_kept = record {
+  exit = λ s p h. kept (exit_keeps s p) h;
+  remove = λ s r there h. kept (remove_keeps s r) h;
+  mode = λ s k writable h. kept (change_keeps s k (with_mode writable) (λ r. record { start = refl; pages = refl; area = refl; bytes = refl })) h;
+  bytes = λ s k x new h. kept (put_keeps s k x new) h;
+  out = λ s k h. kept (moved_out_keeps s k) h;
+  fill = λ s k new h. kept (change_keeps s k (filled new) (filled_shape new)) h;
+  live = λ s k h. kept (change_keeps s k (with_state Live) (state_shape Live)) h;
+  rest = λ s transfers devices next h. h;
+}
+
 perform_spaced : (s : State) (e : Event) → refuse s e ≡ None → 0 < s.config.page → IsSpaced s → IsSpaced (perform s e).0
 perform_spaced s (Spawn p) e page h = kept (spawned_keeps s p) h
 perform_spaced s (Fork p q) e page h = fork_spaced s p q e h
-perform_spaced s (Exit p) e page h = kept (exit_keeps s p) h
 perform_spaced s (Map p g n) e page h = added s p (zeros s App Live g n) (map_accepted s p g n e) (length-replicate (n * s.config.page) 0) h
 perform_spaced s (Alloc p n) e page h = added s p (zeros_at_place s Live p n) (alloc_accepted s p n e) (length-replicate (n * s.config.page) 0) h
-perform_spaced s (Unmap p g) e page h = kept (unmap_keeps s (region_from s p g)) h
-perform_spaced s (Protect p g writable) e page h = kept (protect_keeps s (region_from s p g) writable) h
-perform_spaced s (Read p a n) e page h = h
-perform_spaced s (Write p a bytes) e page h = kept (stored_keeps s _ a bytes) h
-perform_spaced s (Output p sem d port flow a n) e page h = kept (given_up_keeps (add_transfer s _) (class_of sem) (reach_of s p a n)) h
 perform_spaced s (Input p sem d port flow a n) e page h = input_spaced s p (class_of sem) n (input_accepted s p (class_of sem) d _ n _ page e) h
-perform_spaced s (Send d n) e page h = kept (send_keeps s d n (first_queued s d)) h
-perform_spaced s (Recv d n) e page h = kept (received_keeps s d n) h
-perform_spaced s (Finish k) e page h = kept (finish_keeps s k (pending s k)) h
-perform_spaced s (Cancel k) e page h = kept (cancel_keeps s k (pending s k)) h
-perform_spaced s (Pageout n) e page h = h
+perform_spaced s e none page h = event_kept IsSpaced spaced_kept s e refl h
 
 budget_spaced : (s : State) (e : Event) (k : ℕ) → IsSpaced s → IsSpaced (accept s e).0 → IsSpaced (accept s (with_budget e k)).0
-budget_spaced s (Send d n) k h now = kept (send_keeps s d k (first_queued s d)) h
-budget_spaced s (Recv d n) k h now = kept (received_keeps s d k) h
+budget_spaced s (Send d n) k h now = event_kept IsSpaced spaced_kept s (Send d k) refl h
+budget_spaced s (Recv d n) k h now = event_kept IsSpaced spaced_kept s (Recv d k) refl h
 budget_spaced s e k h now = now
 
 pub spacing_stays : Stays IsSpaced
