@@ -1,6 +1,6 @@
 -- The first cause of several lists, and what is known where there is none.
 use Rattle.std.proofs.Common.{◌≡◌, ℕ, ◌+◌, ◌*◌, ◌<◌, ◌≤◌, Bool, true, false, not, List, [], ◌∷◌, ◌++◌, length, refl, arith}
-use Rattle.std.specs.Prelude.{Option, Some, None, IsSome, cond, find, nat_le, nat_lt, ◌&&◌, is_some}
+use Rattle.std.specs.Prelude.{Option, Some, None, cond, find, nat_le, nat_lt, ◌&&◌, is_some}
 use Rattle.std.specs.Option.{option_map}
 use Rattle.std.proofs.lemmas.Bool.Decides.{nat_tests}
 use Rattle.genie_base.specs.Configs.{DeviceConfig, most}
