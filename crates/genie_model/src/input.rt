@@ -18,7 +18,7 @@ use crate::region::Region;
 use crate::table;
 use crate::transfer::{Target, Transfer, address_or_zero};
 use crate::transfers::any_names;
-use genie_base::{Class, NoMemory, RegionState, Reply};
+use genie_base::{Class, NoMemory, RegionState};
 
 fn any_with_pages(regions: &[Region], number: u32, pages: u32) -> bool
     ensures { result ≡ list_any (has_pages number pages) regions.now }

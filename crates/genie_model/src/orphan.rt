@@ -1,5 +1,5 @@
 //! What is left of a region that was removed.
-ghost use Rattle.std.specs.Prelude.{◌≡◌, ◌+◌, ◌<◌, ◌≤◌, ◌^◌, ◌++◌, Some, length, map, filter, find, insert, IfOk, OnOk};
+ghost use Rattle.std.specs.Prelude.{◌≡◌, ◌<◌, ◌≤◌, ◌^◌, ◌++◌, Some, length, map, filter, find, insert, IfOk, OnOk};
 ghost use Rattle.std.specs.List.{list_any};
 ghost use Rattle.std.specs.Option.{option_copied};
 ghost use Rattle.genie_model.specs.Regions.{is_orphan, is_within_range, orphan_part, bytes_within, byte_within, stored_at, stored_in_orphan};
