@@ -8,6 +8,7 @@ use Rattle.std.proofs.lemmas.Bool.{cases_lt}
 use Rattle.genie_base.specs.FreeLists.{IsFreeList}
 use Rattle.genie_base.proofs.Places.{any_default, past_end, set_at, num}
 use Rattle.genie_base.proofs.FreeLists.{last_there, last_free, popped, listed_set, one_spare}
+use Rattle.genie_object.specs.Lemmas.Entries.{entry_in}
 use Rattle.genie_object.specs.declared.objects.Entry.{Entry}
 use Rattle.genie_object.specs.Objects.{AreListed, is_absent, no_entry, object_at}
 
@@ -108,9 +109,6 @@ absent_mapped : (f : Entry → Entry) (objects : List (List Entry)) (o : ℕ) �
 absent_mapped f [] o = refl
 absent_mapped f (x ∷ objects) zero = absent_map f x
 absent_mapped f (x ∷ objects) (suc o) = absent_mapped f objects o
-
-pub entry_in : (objects : List (List Entry)) (o i : ℕ) → i < length (object_at objects o) → o < length objects
-entry_in objects o i h = elim (cases_lt o (length objects)) [ inl l ↦ l | inr l ↦ absurd (omega (arith, h, ap length (past_end objects o [] l))) ]
 
 pub entry_set : (objects : List (List Entry)) (free : List ℕ) (room o i : ℕ) (e : Entry) → o < length objects → AreListed objects free room → AreListed (set objects o (set (object_at objects o) i e)) free room
 entry_set objects free room o i e there kept = same_absent objects _ free room (length-set objects o _) (λ g. elim (set_at objects o g (set (object_at objects o) i e) past there) [
