@@ -2,7 +2,7 @@
 use Rattle.std.proofs.Common.{◌≡◌, ℕ, ◌<◌, ◌≤◌, ◌+◌, ◌*◌, suc, zero, true, false, refl, arith, rules, ◌∙◌, inl, inr}
 use Rattle.std.specs.Prelude.{IsTrue, count_by, if◌then◌else◌}
 use Rattle.genie_base.specs.Counts.{is_page_size}
-use Rattle.genie_base.proofs.Places.{same_or}
+use Rattle.genie_base.specs.Lemmas.Places.{same_or}
 use Rattle.genie_frame.specs.FrameTable.{is_free}
 use Rattle.genie_frame.specs.declared.frame.Meters.{Meters}
 use Rattle.genie_store.specs.StoreView.{StoreView}

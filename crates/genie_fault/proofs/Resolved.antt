@@ -2,7 +2,7 @@
 use Rattle.std.proofs.Common.{◌≡◌, ◌≢◌, ℕ, ◌<◌, ◌≤◌, Bool, true, false, List, refl, arith, ap, length, sym, ◌∙◌, subst, inl, inr, eq-eqb}
 use Rattle.std.specs.Prelude.{Option, Some, None, IfSome, count_by, nat_lt}
 use Rattle.std.specs.Option.{option_map}
-use Rattle.genie_base.proofs.Places.{same_or}
+use Rattle.genie_base.specs.Lemmas.Places.{same_or}
 use Rattle.genie_frame.specs.declared.frame.Meters.{Meters}
 use Rattle.genie_frame.specs.declared.frame.FrameId.{FrameId}
 use Rattle.genie_frame.specs.declared.frame.Owner.TheVariants.{Free}

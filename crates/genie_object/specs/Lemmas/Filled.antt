@@ -1,7 +1,7 @@
 -- A page that comes into a free frame with bytes of its own.
 use Rattle.std.proofs.Common.{◌≡◌, ◌≢◌, ℕ, ◌<◌, ◌≤◌, ◌+◌, Bool, false, List, [], refl, arith, ap, length, set, get_or, sym, ◌∙◌, get_or-set_other, get_or-set_same, length-set}
 use Rattle.std.specs.Prelude.{Option, Some, None, count_by}
-use Rattle.genie_base.proofs.Places.{num, count_by-set}
+use Rattle.genie_base.specs.Lemmas.Places.{num, count_by-set}
 use Rattle.genie_frame.specs.declared.frame.Owner.{Owner}
 use Rattle.genie_frame.specs.declared.frame.Owner.TheVariants.{Free, Page}
 use Rattle.genie_frame.specs.declared.frame.Counts.{Counts}

@@ -2,7 +2,7 @@
 use Rattle.std.proofs.Common.{◌≡◌, ◌≢◌, ℕ, ◌<◌, Bool, true, false, List, [], refl, arith, ap, length, sym, ◌∙◌, inl, inr, subst, get_or-set_other, length-set}
 use Rattle.std.specs.Prelude.{◌==◌, Option, Some, None}
 use Rattle.std.proofs.lemmas.List.Elements.{All-set}
-use Rattle.genie_base.proofs.Places.{same_or}
+use Rattle.genie_base.specs.Lemmas.Places.{same_or}
 use Rattle.genie_frame.specs.declared.frame.Owner.TheVariants.{Free, Page}
 use Rattle.genie_frame.specs.FrameTable.{owner_at, counts_at, bytes_at, is_lent}
 use Rattle.genie_object.specs.declared.pages.Place.{Place}

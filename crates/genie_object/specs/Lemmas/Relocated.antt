@@ -1,7 +1,7 @@
 -- A page that goes from one place to another.
 use Rattle.std.proofs.Common.{◌≡◌, ◌≢◌, ℕ, ◌<◌, Bool, true, false, List, [], refl, arith, ap, length, set, get_or, sym, ◌∙◌, inl, inr, subst, get_or-set_other, get_or-set_same, length-set}
 use Rattle.std.specs.Prelude.{◌⊎◌, Option, Some, None, nat_lt, if◌then◌else◌}
-use Rattle.genie_base.proofs.Places.{same_or}
+use Rattle.genie_base.specs.Lemmas.Places.{same_or}
 use Rattle.genie_frame.specs.declared.frame.Owner.{Owner}
 use Rattle.genie_frame.specs.declared.frame.Owner.TheVariants.{Free, Page, Nobody}
 use Rattle.genie_frame.specs.declared.frame.Counts.{Counts}

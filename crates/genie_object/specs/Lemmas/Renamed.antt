@@ -1,7 +1,7 @@
 -- An entry that gets an untouched page of its own, and leaves the page that it named to others.
 use Rattle.std.proofs.Common.{◌≡◌, ◌≢◌, ℕ, ◌<◌, ◌+◌, Bool, true, false, List, refl, arith, ap, rules, length, sym, ◌∙◌, inl, inr, subst, get_or-set_other, get_or-set_same, length-set, eq-eqb}
 use Rattle.std.specs.Prelude.{◌==◌, Option, Some, None, count_by, nat_lt}
-use Rattle.genie_base.proofs.Places.{same_or, num, count_by-set}
+use Rattle.genie_base.specs.Lemmas.Places.{same_or, num, count_by-set}
 use Rattle.genie_frame.specs.declared.frame.Owner.TheVariants.{Page}
 use Rattle.genie_frame.specs.FrameTable.{owner_at, counts_at, is_held}
 use Rattle.genie_object.specs.declared.pages.Place.TheVariants.{Zero}

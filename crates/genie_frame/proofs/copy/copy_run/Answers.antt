@@ -1,8 +1,8 @@
 use Rattle.std.proofs.Common.{[], arith}
 use Rattle.genie_base.specs.Bytes.{overlaid, part}
-use Rattle.genie_base.proofs.Places.{any_default}
+use Rattle.genie_base.specs.Lemmas.Places.{any_default}
 use Rattle.genie_frame.proofs.Runs.{made_up, made_down}
-use Rattle.genie_frame.proofs.bytes.copy_run.Goals as goal
+use Rattle.genie_frame.proofs.copy.copy_run.Goals as goal
 
 pub returns-then-from-to-2 : goal.returns-then-from-to-2
 returns-then-from-to-2 c =

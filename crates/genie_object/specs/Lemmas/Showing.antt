@@ -2,10 +2,10 @@
 use Rattle.std.proofs.Common.{◌≡◌, ◌≢◌, ℕ, ◌<◌, suc, zero, true, false, List, [], ◌∷◌, refl, arith, ap, rules, length, get_or, sym, ◌∙◌, subst, get_or-set_other, get_or-set_same, eq-eqb, length-set, set, ◌≤◌, inl, inr}
 use Rattle.std.specs.Prelude.{◌==◌, ◌&&◌, Option, Some, None, nat_lt, if◌then◌else◌}
 use Rattle.std.proofs.lemmas.Bool.{cases_lt}
-use Rattle.genie_base.proofs.Places.{set_at}
+use Rattle.genie_base.specs.Lemmas.Places.{set_at}
 use Rattle.std.proofs.lemmas.List.Elements.{All-set}
 use Rattle.genie_base.specs.Bytes.{overlaid}
-use Rattle.genie_base.proofs.Overlaid.{length-overlaid}
+use Rattle.genie_base.specs.Lemmas.Overlaid.{length-overlaid}
 use Rattle.genie_frame.specs.declared.frame.Owner.{Owner}
 use Rattle.genie_frame.specs.declared.frame.Owner.TheVariants.{Free, Page, System, Pool, Nobody}
 use Rattle.genie_frame.specs.declared.frame.Counts.{Counts}
@@ -22,7 +22,7 @@ use Rattle.genie_object.specs.Objects.{entry_at, object_at, names, no_entry}
 use Rattle.genie_object.specs.Memory.{seen, see_entry, see_kept, is_kept, page_bytes, place_bytes}
 use Rattle.genie_object.specs.Sound.{IsSound, strong_at}
 use Rattle.genie_object.specs.Keeping.{IsReady, ShowsSame, ShowsCounts, ShowsStored, ShowsLanded, KeepsSound}
-use Rattle.genie_object.proofs.Named.{counted_once}
+use Rattle.genie_object.specs.Lemmas.Named.{counted_once}
 
 pub shows_same : ShowsSame
 shows_same old new p o c b q e = λ k slots. record {

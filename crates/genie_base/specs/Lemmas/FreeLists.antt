@@ -1,12 +1,13 @@
 -- Laws of a list of free places.
-use Rattle.std.proofs.Common.{◌≡◌, ◌≢◌, ℕ, ◌<◌, ◌≤◌, ◌+◌, Bool, true, false, List, [], ◌∷◌, ◌++◌, refl, arith, ap, length, set, get_or, sym, ◌∙◌, inl, inr, length-append}
+use Rattle.std.proofs.Common.{◌≡◌, ◌≢◌, ℕ, ◌<◌, ◌≤◌, ◌+◌, suc, zero, Bool, true, false, List, [], ◌∷◌, ◌++◌, refl, arith, ap, length, set, get_or, sym, ◌∙◌, inl, inr, length-append, subst}
 use Rattle.std.specs.Prelude.{◌==◌, count_by, if◌then◌else◌, replicate}
+use Rattle.std.specs.List.{range_with_len}
 use Rattle.std.proofs.lemmas.List.{length-replicate, get_or-replicate}
 use Rattle.std.proofs.lemmas.List.Folds.{sum_by-replicate}
 use Rattle.std.proofs.lemmas.Bool.Decides.{eqb_tells}
 use Rattle.std.proofs.lemmas.Bool.{cases_lt}
 use Rattle.genie_base.specs.FreeLists.{IsFreeList}
-use Rattle.genie_base.proofs.Places.{same_or, set_at, past_end, num, count_by-set, count_by-push, count_by-below}
+use Rattle.genie_base.specs.Lemmas.Places.{same_or, set_at, past_end, num, count_by-set, count_by-push, count_by-below}
 
 num_one : (b : Bool) → 1 ≤ num b → b ≡ true
 num_one true h = refl
@@ -106,3 +107,20 @@ listed_more is_free past x none one i free list = record {
 
 pub listed_none : {X : Type 0} (is_free : X → Bool) (past : X) → is_free past ≡ false → IsFreeList is_free past [] []
 listed_none is_free past none = record { listed = λ g. sym (ap num none); number = refl }
+
+pub numbers_more : (a n : ℕ) → range_with_len a (suc n) ≡ range_with_len a n ++ (a + n) ∷ []
+numbers_more a zero = ap (λ k. k ∷ []) (omega arith)
+numbers_more a (suc n) = ap (λ ks. a ∷ ks) (numbers_more (a + 1) n ∙ ap (λ k. range_with_len (a + 1) n ++ k ∷ []) (omega arith))
+
+pub numbers_below : (n : ℕ) → range_with_len 0 (n + 1) ≡ range_with_len 0 n ++ n ∷ []
+numbers_below n =
+    let one : n + 1 ≡ suc n = omega arith in
+    let start : 0 + n ≡ n = omega arith in
+    ap (range_with_len 0) one ∙ numbers_more 0 n ∙ ap (λ k. range_with_len 0 n ++ k ∷ []) start
+
+-- n places, all of them free, are listed by the numbers below n
+pub all_listed : {X : Type 0} (is_free : X → Bool) (past x : X) → is_free past ≡ false → is_free x ≡ true → (n : ℕ) → IsFreeList is_free past (replicate n x) (range_with_len 0 n)
+all_listed is_free past x none one zero = listed_none is_free past none
+all_listed is_free past x none one (suc n) =
+    let one_more : n + 1 ≡ suc n = omega arith in
+    subst (λ k. IsFreeList is_free past (replicate k x) (range_with_len 0 k)) one_more (subst (λ free. IsFreeList is_free past (replicate (n + 1) x) free) (sym (numbers_below n)) (listed_more is_free past x none one n (range_with_len 0 n) (all_listed is_free past x none one n)))

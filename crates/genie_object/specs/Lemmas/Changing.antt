@@ -9,7 +9,7 @@ use Rattle.genie_frame.specs.Frames.{unowned, left_to, loan_ended, one_strong_mo
 use Rattle.genie_object.specs.declared.memory.Memory.{Memory}
 use Rattle.genie_object.specs.Objects.{entry_at}
 use Rattle.genie_object.specs.Memory.{Seen, seen, see_kept, is_kept, page_bytes}
-use Rattle.genie_object.specs.Keeping.{OnlyFrame, shown, ShowsFrame, ShowsAgain, ShowsDisowned, ShowsGiven, ShowsTaken, ShowsLent, ShowsEnded, ShowsStill, ShowsLast, ShowsUnlent}
+use Rattle.genie_object.specs.Keeping.{OnlyFrame, shown, ShowsFrame, ShowsSameBytes, ShowsDisowned, ShowsGiven, ShowsTaken, ShowsLent, ShowsEnded, ShowsUnseenEnd, ShowsLastLoan, ShowsUnlent}
 
 -- the bytes of frame g once the owner and the counts of frame f changed
 kept_bytes : (old new : Memory) (f : ℕ) (slots : ℕ → List ℕ) → OnlyFrame f old.frames new.frames → (g : ℕ) → (seen new slots).kept_bytes g ≡ (see_kept (seen old slots) f (shown (owner_at new.frames f) (counts_at new.frames f) (bytes_at old.frames f))).kept_bytes g
@@ -32,8 +32,8 @@ again s f g =
       | false ↦ λ e. refl
     ] refl
 
-pub shows_again : ShowsAgain
-shows_again s f = λ k. record { entry_bytes = s.entry_bytes; kept_bytes = λ g. again s f g k }
+pub shows_same_bytes : ShowsSameBytes
+shows_same_bytes s f = λ k. record { entry_bytes = s.entry_bytes; kept_bytes = λ g. again s f g k }
 
 shows_owner : (m : Memory) (f : ℕ) (owner : Owner) (slots : ℕ → List ℕ) → f < length m.frames.owners → seen (record m { frames = set_owner m.frames f owner }) slots ≡ see_kept (seen m slots) f (shown owner (counts_at m.frames f) (bytes_at m.frames f))
 shows_owner m f owner slots l =
@@ -101,11 +101,11 @@ shows_ended m f left slots s l =
     } in
     shows_frame m (record m { frames = loan_ended m.frames f left }) f slots only refl refl ∙ (λ k. see_kept (seen m slots) f (shown (get_or-set_same m.frames.owners f owner Free l k) (get_or-set_same m.frames.counts f left no_counts (within_counts m f s l) k) (bytes_at m.frames f)))
 
-pub shows_still : ShowsStill
-shows_still m f left slots s l e = shows_ended m f left slots s l ∙ (λ k. see_kept (seen m slots) f (if e k then bytes_at m.frames f else [])) ∙ shows_again (seen m slots) f
+pub shows_unseen_end : ShowsUnseenEnd
+shows_unseen_end m f left slots s l e = shows_ended m f left slots s l ∙ (λ k. see_kept (seen m slots) f (if e k then bytes_at m.frames f else [])) ∙ shows_same_bytes (seen m slots) f
 
-pub shows_last : ShowsLast
-shows_last m f left slots s l is e = shows_ended m f left slots s l ∙ (λ k. see_kept (seen m slots) f (shown (left_to (is k) left) left (bytes_at m.frames f))) ∙ (λ k. see_kept (seen m slots) f (shown (if e k then Nobody else Free) left (bytes_at m.frames f)))
+pub shows_last_loan : ShowsLastLoan
+shows_last_loan m f left slots s l is e = shows_ended m f left slots s l ∙ (λ k. see_kept (seen m slots) f (shown (left_to (is k) left) left (bytes_at m.frames f))) ∙ (λ k. see_kept (seen m slots) f (shown (if e k then Nobody else Free) left (bytes_at m.frames f)))
 
 pub shows_unlent : ShowsUnlent
 shows_unlent m f p left slots s l is e = shows_ended m f left slots s l ∙ (λ k. see_kept (seen m slots) f (shown (left_to (is k) left) left (bytes_at m.frames f))) ∙ (λ k. see_kept (seen m slots) f (if nat_lt 0 (e k) then bytes_at m.frames f else []))

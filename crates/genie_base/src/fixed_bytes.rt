@@ -1,18 +1,19 @@
-//! The bytes of one frame.
-ghost use Rattle.std.specs.Prelude.{◌≡◌, ◌≢◌, ◌+◌, ◌<◌, ◌≤◌, [], length, replicate, slice_set, slice_index_or, IfOk};
+//! Bytes of fixed length.
+ghost use Rattle.std.specs.Prelude.{◌≡◌, ◌+◌, ◌≤◌, length, replicate, IfOk};
 ghost use Rattle.genie_base.specs.Bytes.{overlaid, part};
 
-use genie_base::overlay;
-use std::alloc::{AllocError, Global};
+use crate::bytes::overlay;
+use crate::no_memory::NoMemory;
+use std::alloc::Global;
 use std::marker::Model;
 
-/// The bytes of one frame. They are never moved in memory. Contracts see the list.
+/// Bytes in memory of their own, as many as `zeros` has made. They are never moved in memory. Contracts see the list.
 #[derive(Drop)]
-pub struct Bytes {
+pub struct FixedBytes {
     items: Vec<u8>,
 }
 
-impl Model for Bytes {
+impl Model for FixedBytes {
     ghost use Rattle.std.specs.Prelude.{List, ℕ};
 
     ghost Value = { List ℕ };
@@ -20,15 +21,15 @@ impl Model for Bytes {
     ghost view = { λ a. a.items.items };
 }
 
-impl Bytes {
+impl FixedBytes {
     ghost use Rattle.std.specs.Borrow.{sem};
-    ghost use Rattle.genie_frame.specs.Lending.{LendsBytes};
+    ghost use Rattle.genie_base.specs.Lending.{LendsBytes};
 
     /// `n` zeros.
-    pub fn zeros(alloc: Global, n: usize) -> Result<Bytes, AllocError>
+    pub fn zeros(alloc: Global, n: usize) -> Result<FixedBytes, NoMemory>
         ensures { IfOk result (λ bytes. bytes ≡ replicate n 0) }
     {
-        Ok(Bytes {
+        Ok(FixedBytes {
             items: vec![in alloc; 0; n]?,
         })
     }
@@ -55,12 +56,19 @@ impl Bytes {
         &bytes[off..off + n]
     }
 
-    /// Stores bytes from place `off` on.
+    /// Stores bytes from place `off` on. Those that would pass the end are left out.
     pub fn store(&mut self, off: usize, from: &[u8])
-        requires { off + length from.now ≤ length self.old }
         ensures { self.new ≡ overlaid off from.now self.old }
     {
         overlay(&mut self.items, off, from);
+    }
+
+    /// Stores as many bytes as there are.
+    pub fn fill(&mut self, from: &[u8])
+        requires { length from.now ≡ length self.old }
+        ensures { self.new ≡ from.now }
+    {
+        self.items.copy_from_slice(from);
     }
 
     /// Stores `n` zeros from place `off` on.
@@ -81,44 +89,8 @@ impl Bytes {
     }
 }
 
-/// Copies `n` bytes from one frame to another, or within one, where the ranges may overlap.
-pub fn copy_run(
-    frames: &mut [Bytes],
-    from: usize,
-    from_off: usize,
-    to: usize,
-    to_off: usize,
-    n: usize,
-)
-    requires from_there { from < length frames.old }
-    requires to_there { to < length frames.old }
-    requires from_room { from_off + n ≤ length (slice_index_or frames.old from []) }
-    requires to_room { to_off + n ≤ length (slice_index_or frames.old to []) }
-    ensures { frames.new ≡ slice_set frames.old to (overlaid to_off (part from_off n (slice_index_or frames.old from [])) (slice_index_or frames.old to [])) }
-{
-    if from == to {
-        let bytes = &mut frames[to];
-        bytes.move_run(from_off, to_off, n);
-    } else if from < to {
-        let (low, high) = frames.split_at_mut(to);
-        store_run(&low[from], from_off, n, &mut high[0], to_off);
-    } else {
-        let (low, high) = frames.split_at_mut(from);
-        store_run(&high[0], from_off, n, &mut low[to], to_off);
-    }
-}
-
-// Stores n bytes of another frame.
-fn store_run(source: &Bytes, from: usize, n: usize, target: &mut Bytes, to: usize)
-    requires from_room { from + n ≤ length source.now }
-    requires to_room { to + n ≤ length target.old }
-    ensures { target.new ≡ overlaid to (part from n source.now) target.old }
-{
-    target.store(to, source.run(from, n));
-}
-
 // Stores n zeros from place off on.
-#[tactic(auto, using(crate::proofs::Runs::put_laid))]
+#[tactic(auto, using(crate::specs::Lemmas::Runs::put_laid))]
 fn clear(bytes: &mut [u8], off: usize, n: usize)
     requires { off + n ≤ length bytes.old }
     ensures { bytes.new ≡ overlaid off (replicate n 0) bytes.old }
@@ -128,7 +100,7 @@ fn clear(bytes: &mut [u8], off: usize, n: usize)
 }
 
 // Stores the n bytes that stand at place from at place to.
-#[tactic(auto, using(crate::proofs::Runs::shifted))]
+#[tactic(auto, using(crate::specs::Lemmas::Runs::shifted))]
 fn shift(bytes: &mut [u8], from: usize, to: usize, n: usize)
     requires from_room { from + n ≤ length bytes.old }
     requires to_room { to + n ≤ length bytes.old }

@@ -5,9 +5,10 @@ use Rattle.std.proofs.lemmas.List.Elements.{All-replicate}
 use Rattle.std.proofs.lemmas.List.Sums.{sum_by-cons}
 use Rattle.std.proofs.lemmas.List.{length-replicate, length-map}
 use Rattle.std.proofs.lemmas.Bool.{cases_lt}
-use Rattle.genie_base.specs.FreeLists.{IsFreeList}
-use Rattle.genie_base.proofs.Places.{any_default, past_end, set_at, num}
-use Rattle.genie_base.proofs.FreeLists.{last_there, last_free, popped, listed_set, one_spare}
+use Rattle.std.specs.List.{range_with_len}
+use Rattle.genie_base.specs.FreeLists.{FreeNumbers, IsFreeList}
+use Rattle.genie_base.specs.Lemmas.Places.{any_default, past_end, set_at, num}
+use Rattle.genie_base.specs.Lemmas.FreeLists.{all_listed, last_there, last_free, popped, listed_set, one_spare}
 use Rattle.genie_object.specs.Lemmas.Entries.{entry_in}
 use Rattle.genie_object.specs.declared.objects.Entry.{Entry}
 use Rattle.genie_object.specs.Objects.{AreListed, is_absent, no_entry, object_at}
@@ -119,8 +120,9 @@ entry_set objects free room o i e there kept = same_absent objects _ free room (
 pub all_mapped : (f : Entry → Entry) (objects : List (List Entry)) (free : List ℕ) (room : ℕ) → AreListed objects free room → AreListed (map (map f) objects) free room
 all_mapped f objects free room kept = same_absent objects _ free room (simp length-map) (absent_mapped f objects) kept
 
-pub pages_new : (n : ℕ) (free : List ℕ) (room : ℕ) → n ≡ 512 → IsFreeList is_absent past (replicate n []) free → 512 ≤ room → AreListed (replicate n []) free room
-pages_new n free room e list spare = record { size = length-replicate n [] ∙ e; list = list; spare = spare }
+-- no object is there at first
+pub none_made : (objects : List (List Entry)) (free : FreeNumbers) → objects ≡ replicate 512 [] → free ≡ record { list = range_with_len 0 512; room = 512 } → AreListed objects free.list free.room
+none_made objects free o f = rw (o, f) (record { size = let none : List Entry = [] in length-replicate 512 none; list = all_listed is_absent past [] refl refl 512; spare = omega arith })
 
 -- how many entries an object has, once an entry was replaced or permissions were taken
 pub len_set : (objects : List (List Entry)) (o i a : ℕ) (e : Entry) → o < length objects → length (object_at (set objects o (set (object_at objects o) i e)) a) ≡ length (object_at objects a)
