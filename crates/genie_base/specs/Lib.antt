@@ -5,6 +5,8 @@ pub mod Counts
 pub mod Events
 pub mod FreeLists
 pub mod Headers
+pub mod Lemmas
+pub mod Lending
 pub mod Posted
 pub mod Records
 pub mod Refusals

@@ -117,7 +117,7 @@ fn pool_of_all(devices: &[Option<DeviceConfig>]) -> u64
 
 impl Config {
     /// How many frames the pools of the pooled devices have.
-    #[tactic(auto, using(crate::proofs::Mapped::mapped))]
+    #[tactic(auto, using(crate::specs::Lemmas::Mapped::mapped))]
     pub fn pool(&self) -> u64
         ensures frames { result ≡ pool_of (config_of self.now).devices }
         ensures most { result ≤ 2 ^ 43 }

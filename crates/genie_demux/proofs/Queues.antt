@@ -7,7 +7,7 @@ use Rattle.std.proofs.lemmas.List.Filters.{length-filter_both}
 use Rattle.std.proofs.lemmas.List.{get_or_read}
 use Rattle.std.proofs.lemmas.List.Kept.{AllPairs-filter}
 use Rattle.std.proofs.lemmas.List.Quantifiers.{position-Some}
-use Rattle.genie_base.proofs.Searches.{filter_all, find_fails, find_nowhere, find_there, remove_only}
+use Rattle.genie_base.specs.Lemmas.Searches.{filter_all, find_fails, find_nowhere, find_there, remove_only}
 use Rattle.genie_demux.specs.declared.input.Input.{Input}
 use Rattle.genie_demux.specs.Posted.{has_id, input_of, without, IsQueue}
 

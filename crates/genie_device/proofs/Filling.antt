@@ -3,7 +3,7 @@ use Rattle.std.proofs.Common.{◌≡◌, ℕ, ◌+◌, ◌^◌, ◌<◌, ◌≤�
 use Rattle.std.proofs.lemmas.List.{length-take}
 use Rattle.std.proofs.lemmas.Grind.{common_steps}
 use Rattle.genie_base.specs.Bytes.{overlaid}
-use Rattle.genie_base.proofs.Overlaid.{overlaid-pieces, length-overlaid}
+use Rattle.genie_base.specs.Lemmas.Overlaid.{overlaid-pieces, length-overlaid}
 use Rattle.genie_host.specs.Host.{HostView}
 use Rattle.genie_device.specs.declared.buffer.Usage.{Usage}
 use Rattle.genie_device.specs.declared.buffer.Usage.TheVariants as usage

@@ -7,7 +7,7 @@ use Rattle.std.specs.Io.KnownBytes.{Consumes, IsAtEnd}
 use Rattle.std.proofs.KnownBytes.{Consumes-nil, Consumes-trans, Consumes-kept}
 use Rattle.genie_base.specs.Bytes.{overlaid}
 use Rattle.genie_base.specs.Headers.{payload_taken}
-use Rattle.genie_base.proofs.Overlaid.{overlaid-nothing, overlaid-append}
+use Rattle.genie_base.specs.Lemmas.Overlaid.{overlaid-nothing, overlaid-append}
 use Rattle.genie_host.specs.Host.{HostView, OnlyHandle, Reads}
 use Rattle.genie_host.specs.OnlyHandle.{only_refl, only_trans}
 use Rattle.genie_device.specs.declared.steps.BodyEnd.TheVariants.{More, Whole, Faulted}

@@ -6,7 +6,7 @@ use Rattle.std.proofs.lemmas.Bool.{lt-ltb}
 use Rattle.std.proofs.lemmas.Grind.{common_steps}
 use Rattle.std.proofs.lemmas.List.{length-set}
 use Rattle.std.proofs.lemmas.List.Sums.{sum_by-cons}
-use Rattle.genie_base.proofs.Places.{set_at}
+use Rattle.genie_base.specs.Lemmas.Places.{set_at}
 use Rattle.genie_device.specs.Buffers.{BufferView, BufferState, no_buffer, state_at, with_state, first_free, is_free, is_filling, is_arrived}
 
 pub length-with_state : (s : BufferState) (i : ℕ) (buffers : List BufferView) → length (with_state s i buffers) ≡ length buffers

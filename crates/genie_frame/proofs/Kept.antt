@@ -10,12 +10,12 @@ use Rattle.std.proofs.lemmas.Bool.{cases_lt}
 use Rattle.genie_frame.specs.FrameTable.{is_free, is_owned, is_lent, no_counts, Agree, AreLoansOwned, AreLentKept}
 use Rattle.genie_frame.specs.Frames.{IsKept, unowned, left_to}
 use Rattle.genie_base.specs.FreeLists.{IsFreeList}
-use Rattle.genie_base.proofs.Places.{set_at, any_default, past_end}
+use Rattle.genie_base.specs.Lemmas.Places.{set_at, any_default, past_end}
 use Rattle.genie_base.specs.Counts.{is_page_size}
 use Rattle.genie_base.specs.Bytes.{overlaid}
-use Rattle.genie_base.proofs.Overlaid.{length-overlaid}
-use Rattle.genie_frame.proofs.Runs.{refilled}
-use Rattle.genie_base.proofs.FreeLists.{listed_set, one_spare, popped, last_there, last_free}
+use Rattle.genie_base.specs.Lemmas.Overlaid.{length-overlaid}
+use Rattle.genie_base.specs.Lemmas.Runs.{refilled}
+use Rattle.genie_base.specs.Lemmas.FreeLists.{listed_set, one_spare, popped, last_there, last_free}
 
 pub owned_agrees : (o : Owner) (c : Counts) → is_owned o ≡ true → Agree o c
 owned_agrees Free c e = cc

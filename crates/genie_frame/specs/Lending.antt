@@ -1,22 +1,15 @@
 -- What is left once a page was lent.
-use Rattle.std.specs.Prelude.{◌≡◌, ℕ, List, length, take, drop, ◌++◌, ⊤}
+use Rattle.std.specs.Prelude.{◌≡◌, ℕ, List, ⊤}
 use Rattle.std.specs.Borrow.{Lends, MutBor, Fml, Array, u8 as byte, follows_so}
 use mathlib.Core.Option.{none}
+use Rattle.genie_base.specs.Lending.{left_by_slice}
 use Rattle.genie_frame.specs.FrameTable.{FrameTable, set_bytes, bytes_at}
 use Rattle.genie_frame.specs.Frames.{more_gets, more_puts}
 use Rattle.genie_frame.specs.contracts.frames.Frames.{the_row as frames_row}
-use Rattle.genie_frame.specs.contracts.bytes.Bytes.{the_row as bytes_row}
-
--- the bytes with those that were left behind a slice of them all; a slice keeps its length
-abbrev pub refill : List ℕ → List ℕ → List ℕ
-refill old new = take (length old) (new ++ drop (length new) old)
-
-abbrev pub LendsBytes : MutBor (List ℕ) → MutBor (List ℕ) → Fml
-LendsBytes s r = Lends bytes_row (Array byte 0) s r (refill s.now)
 
 -- the frames end with the last bytes behind the reference in frame f, and one page more was got
 abbrev pub LendsPage : MutBor FrameTable → ℕ → MutBor (List ℕ) → Fml
-LendsPage s f r = Lends frames_row (Array byte 0) s r (λ new. more_gets (set_bytes s.now f (refill (bytes_at s.now f) new)))
+LendsPage s f r = Lends frames_row (Array byte 0) s r (λ new. more_gets (set_bytes s.now f (left_by_slice (bytes_at s.now f) new)))
 
 -- the frames end with one page more put, and else as they were
 abbrev pub ShowsPage : MutBor FrameTable → Fml

@@ -1,16 +1,15 @@
 //! The page frames.
-ghost use Rattle.std.specs.Prelude.{◌≡◌, ℕ, ◌+◌, ◌-◌, ◌^◌, ◌<◌, ◌≤◌, ◌≢◌, ◌⊎◌, ◌||◌, not, true, false, [], ◌∷◌, ◌++◌, length, replicate, count_by, IsTrue, IfOk, vec_capacity, if◌then◌else◌};
+ghost use Rattle.std.specs.Prelude.{◌≡◌, ℕ, ◌+◌, ◌-◌, ◌^◌, ◌<◌, ◌≤◌, ◌≢◌, ◌⊎◌, ◌||◌, not, true, false, [], ◌∷◌, ◌++◌, length, replicate, count_by, IsTrue, IfOk, if◌then◌else◌};
 ghost use Rattle.genie_base.specs.Counts.{is_page_size};
-ghost use Rattle.genie_base.specs.FreeLists.{IsFreeList};
 ghost use Rattle.genie_base.specs.Bytes.{part};
 ghost use Rattle.genie_frame.specs.FrameTable as table;
 ghost use Rattle.genie_frame.specs.FrameTable.{owner_at, counts_at, bytes_at, set_owner, set_counts, is_owned, is_system, is_held, is_lent, IsShaped, AreLoansOwned, Agree, KeepsLent};
 ghost use Rattle.genie_frame.specs.Frames.{stored, loan_ended, unowned, outputs, one_output_less, one_strong_more, one_weak_more, one_input_more, one_input_less, one_wire_more, one_wire_less, more_read, more_written, more_copied, more_zeroed, more_taken, more_landed};
 
-use crate::bytes::{Bytes, copy_run};
+use crate::copy::copy_run;
 use crate::frame::{Counts, FrameId, InLoan, Meters, OutLoan, Owner};
-use genie_base::NoMemory;
-use std::alloc::{AllocError, Global};
+use genie_base::{FixedBytes, FreeList, NoMemory};
+use std::alloc::Global;
 use std::marker::Model;
 
 /// The page frames. All memory is reserved by `new`, and no other call refuses. Contracts see a list for each thing
@@ -20,15 +19,14 @@ pub struct Frames {
     page: u32,
     owners: Vec<Owner>,
     counts: Vec<Counts>,
-    bytes: Vec<Bytes>,
+    bytes: Vec<FixedBytes>,
     // The numbers of the free frames, each once.
-    free: Vec<u32>,
+    free: FreeList,
     meters: Meters,
     landed: u64,
 }
 
 impl Model for Frames {
-    ghost use Rattle.std.specs.Prelude.{vec_capacity};
     ghost use Rattle.genie_frame.specs.FrameTable.{FrameTable};
     ghost use Rattle.genie_frame.specs.Frames.{IsKept};
 
@@ -36,7 +34,7 @@ impl Model for Frames {
 
     ghost view = { λ a. record { page = a.page; owners = a.owners.items; counts = a.counts.items; bytes = a.bytes.items; meters = a.meters; landed = a.landed } };
 
-    ghost invariant = { λ a. IsKept a.page a.owners.items a.counts.items a.bytes.items a.free.items (vec_capacity a.free) };
+    ghost invariant = { λ a. IsKept a.page a.owners.items a.counts.items a.bytes.items a.free.list a.free.room };
 }
 
 impl Frames {
@@ -56,7 +54,7 @@ impl Frames {
             owners: vec![in alloc; Owner::Free; frames]?,
             counts: vec![in alloc; NO_COUNTS; frames]?,
             bytes: blank(alloc, frames, page as usize)?,
-            free: all_free(alloc, n)?,
+            free: FreeList::below(alloc, n)?,
             meters: NO_METERS,
             landed: 0,
         })
@@ -83,7 +81,7 @@ impl Frames {
     pub fn free(&self) -> u32
         ensures { result ≡ count_by table.is_free self.now.owners }
     {
-        self.free.len() as u32
+        self.free.len()
     }
 
     pub fn owner(&self, f: FrameId) -> Owner
@@ -123,7 +121,7 @@ impl Frames {
         ensures frames { self.new ≡ more_taken (set_owner self.old result.0 owner) }
         ensures lent { KeepsLent self.old self.new }
     {
-        let f = pop_free(&mut self.free);
+        let f = self.free.take();
         self.owners[f as usize] = owner;
         self.meters.taken += 1;
         FrameId(f)
@@ -412,45 +410,22 @@ const NO_METERS: Meters = Meters {
 };
 
 // So many frames of zeros.
-fn blank(alloc: Global, frames: usize, page: usize) -> Result<Vec<Bytes>, AllocError>
+fn blank(alloc: Global, frames: usize, page: usize) -> Result<Vec<FixedBytes>, NoMemory>
     ensures { IfOk result (λ v. v.items ≡ replicate frames (replicate page 0)) }
 {
     let mut all = Vec::with_capacity(alloc, frames)?;
     for _ in 0..frames {
-        all.push_reserved(Bytes::zeros(alloc, page)?);
+        all.push_reserved(FixedBytes::zeros(alloc, page)?);
     }
     Ok(all)
-}
-
-// The numbers of n frames, all of them free.
-fn all_free(alloc: Global, n: u32) -> Result<Vec<u32>, AllocError>
-    ensures list { IfOk result (λ v. IsFreeList table.is_free Owner.Nobody (replicate n Owner.Free) v.items) }
-    ensures room { IfOk result (λ v. n ≤ vec_capacity v) }
-{
-    let mut all = Vec::with_capacity(alloc, n as usize)?;
-    for f in 0..n {
-        all.push_reserved(f);
-    }
-    Ok(all)
-}
-
-// The last frame of the list.
-fn pop_free(free: &mut Vec<u32>) -> u32
-    requires { 0 < length free.old.items }
-    ensures items { free.old.items ≡ free.new.items ++ result ∷ [] }
-    ensures room { vec_capacity free.new ≡ vec_capacity free.old }
-{
-    let Some(f) = free.pop() else { unreachable!() };
-    f
 }
 
 // Lists the frame where its owner says that it is free.
-fn list_free(free: &mut Vec<u32>, f: u32, owner: Owner)
-    requires { length free.old.items < vec_capacity free.old }
-    ensures items { free.new.items ≡ (if table.is_free owner then free.old.items ++ f ∷ [] else free.old.items) }
-    ensures room { vec_capacity free.new ≡ vec_capacity free.old }
+fn list_free(free: &mut FreeList, f: u32, owner: Owner)
+    requires { length free.old.list < free.old.room }
+    ensures { free.new ≡ record { list = if table.is_free owner then free.old.list ++ f ∷ [] else free.old.list; room = free.old.room } }
 {
     if owner.is_free() {
-        free.push_reserved(f);
+        free.give(f);
     }
 }

@@ -1,7 +1,7 @@
 //! Page frames: their owners, loans, wires, bytes and meters.
 #![tactic(auto)]
 
-mod bytes;
+mod copy;
 pub mod frame;
 pub mod frames;
 

@@ -6,7 +6,7 @@ use Rattle.std.proofs.lemmas.Bool.{cases_lt, eqb-true, ne_eqb}
 use Rattle.std.proofs.lemmas.List.Filters.{length-filter_both}
 use Rattle.std.proofs.lemmas.List.Kept.{AllPairs-filter}
 use Rattle.std.proofs.lemmas.List.Quantifiers.{position-Some}
-use Rattle.genie_base.proofs.Searches.{position_any, remove_only}
+use Rattle.genie_base.specs.Lemmas.Searches.{position_any, remove_only}
 use Rattle.genie_hiding.specs.Queues.{IsWeakQueue, is_in, is_number, without}
 
 pub there : (id : ℕ) (ids : List ℕ) → is_in id ids ≡ true → is_some (position (is_number id) ids) ≡ true

@@ -9,7 +9,7 @@ use Rattle.std.proofs.lemmas.List.FromFn.{get_or-range_with_len, get_or-map-rang
 use Rattle.std.proofs.lemmas.List.Sums.{sum_by-cons}
 use Rattle.slab.specs.Slab.{Slab, get, slab_len, Updates, with_value, ContainsKey}
 use Rattle.slab.proofs.SlabLemmas.{ContainsKey-within, Updates-with_value}
-use Rattle.genie_base.proofs.Places.{same_or, past_end, num, count_by-set}
+use Rattle.genie_base.specs.Lemmas.Places.{same_or, past_end, num, count_by-set}
 use Rattle.genie_object.specs.declared.pages.PageInfo.{PageInfo}
 use Rattle.genie_object.specs.Pages.{PageTable, set_page, no_page, page_at, is_there, info_at, pages_of, IsTable}
 

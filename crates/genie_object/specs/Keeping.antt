@@ -15,12 +15,6 @@ use Rattle.genie_object.specs.Objects.{entry_at}
 use Rattle.genie_object.specs.Memory.{Seen, seen, see_entry, see_kept, is_kept, entry_frame}
 use Rattle.genie_object.specs.Sound.{IsSound, strong_at}
 
--- what every call keeps: a page that a device holds keeps its entry and its frame, and a frame that no page has keeps
--- its owner while it is lent
-pub record Keeps (old new : Memory) : Type 0 where
-  pub held : (o i f : ℕ) → entry_frame old o i ≡ Some f → is_held (counts_at old.frames f) ≡ true → entry_frame new o i ≡ Some f
-  pub unpaged : (f : ℕ) → is_lent (counts_at old.frames f) ≡ true → is_page (owner_at old.frames f) ≡ false → owner_at new.frames f ≡ owner_at old.frames f
-
 -- the entry's page is its own and in the frame, which has no strong loan
 pub record IsReady (m : Memory) (o i : ℕ) (f : FrameId) : Type 0 where
   pub number : PageId
@@ -62,8 +56,8 @@ abbrev pub ShowsFrame : Type 0
 ShowsFrame = (old new : Memory) (f : ℕ) (slots : ℕ → List ℕ) → OnlyFrame f old.frames new.frames → new.pages.pages ≡ old.pages.pages → new.objects ≡ old.objects → seen new slots ≡ see_kept (seen old slots) f (shown (owner_at new.frames f) (counts_at new.frames f) (bytes_at old.frames f))
 
 -- a frame that shows the bytes that it showed before changes nothing of what is seen
-abbrev pub ShowsAgain : Type 0
-ShowsAgain = (s : Seen) (f : ℕ) → see_kept s f (s.kept_bytes f) ≡ s
+abbrev pub ShowsSameBytes : Type 0
+ShowsSameBytes = (s : Seen) (f : ℕ) → see_kept s f (s.kept_bytes f) ≡ s
 
 -- a disowned frame shows its bytes while a loan is out on it, and nothing without one
 abbrev pub ShowsDisowned : Type 0
@@ -87,12 +81,12 @@ abbrev pub ShowsEnded : Type 0
 ShowsEnded = (m : Memory) (f : ℕ) (left : Counts) (slots : ℕ → List ℕ) → IsShaped m.frames.page m.frames.owners m.frames.counts m.frames.bytes → f < length m.frames.owners → seen (record m { frames = loan_ended m.frames f left }) slots ≡ see_kept (seen m slots) f (shown (left_to (owner_at m.frames f) left) left (bytes_at m.frames f))
 
 -- a loan that ends shows what was seen before where it doesn't change whether its frame is seen by itself
-abbrev pub ShowsStill : Type 0
-ShowsStill = (m : Memory) (f : ℕ) (left : Counts) (slots : ℕ → List ℕ) → IsShaped m.frames.page m.frames.owners m.frames.counts m.frames.bytes → f < length m.frames.owners → is_kept (left_to (owner_at m.frames f) left) left ≡ is_kept (owner_at m.frames f) (counts_at m.frames f) → seen (record m { frames = loan_ended m.frames f left }) slots ≡ seen m slots
+abbrev pub ShowsUnseenEnd : Type 0
+ShowsUnseenEnd = (m : Memory) (f : ℕ) (left : Counts) (slots : ℕ → List ℕ) → IsShaped m.frames.page m.frames.owners m.frames.counts m.frames.bytes → f < length m.frames.owners → is_kept (left_to (owner_at m.frames f) left) left ≡ is_kept (owner_at m.frames f) (counts_at m.frames f) → seen (record m { frames = loan_ended m.frames f left }) slots ≡ seen m slots
 
 -- the last loan on a frame of nobody takes its bytes away as it ends
-abbrev pub ShowsLast : Type 0
-ShowsLast = (m : Memory) (f : ℕ) (left : Counts) (slots : ℕ → List ℕ) → IsShaped m.frames.page m.frames.owners m.frames.counts m.frames.bytes → f < length m.frames.owners → owner_at m.frames f ≡ Nobody → is_lent left ≡ false → seen (record m { frames = loan_ended m.frames f left }) slots ≡ see_kept (seen m slots) f []
+abbrev pub ShowsLastLoan : Type 0
+ShowsLastLoan = (m : Memory) (f : ℕ) (left : Counts) (slots : ℕ → List ℕ) → IsShaped m.frames.page m.frames.owners m.frames.counts m.frames.bytes → f < length m.frames.owners → owner_at m.frames f ≡ Nobody → is_lent left ≡ false → seen (record m { frames = loan_ended m.frames f left }) slots ≡ see_kept (seen m slots) f []
 
 -- the last strong loan on a page's frame takes the frame's bytes away as it ends
 abbrev pub ShowsUnlent : Type 0

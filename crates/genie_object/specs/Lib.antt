@@ -1,5 +1,9 @@
+pub mod Costs
 pub mod Keeping
+pub mod Lemmas
 pub mod Memory
 pub mod Objects
 pub mod Pages
 pub mod Sound
+pub mod Steps
+pub mod Touching

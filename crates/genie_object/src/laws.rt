@@ -1,8 +1,8 @@
 //! Laws of a memory.
-ghost use Rattle.genie_object.specs.Keeping.{ShowsSame, ShowsCounts, ShowsStored, ShowsLanded, ShowsFrame, ShowsAgain, ShowsDisowned, ShowsGiven, ShowsTaken, ShowsLent, ShowsEnded, ShowsStill, ShowsLast, ShowsUnlent, KeepsSound};
+ghost use Rattle.genie_object.specs.Keeping.{ShowsSame, ShowsCounts, ShowsStored, ShowsLanded, ShowsFrame, ShowsSameBytes, ShowsDisowned, ShowsGiven, ShowsTaken, ShowsLent, ShowsEnded, ShowsUnseenEnd, ShowsLastLoan, ShowsUnlent, KeepsSound};
 
 /// A step that leaves bytes, places and entries alone shows what was seen before.
-#[tactic(auto, using(crate::proofs::Showing::shows_same))]
+#[tactic(auto, using(crate::specs::Lemmas::Showing::shows_same))]
 pub fn unchanged_law()
     ensures { ShowsSame }
 {}
@@ -25,27 +25,27 @@ pub fn landed_law()
 
 /// A step that changes the owner and the counts of one frame alone shows at that frame and nowhere else: the frame's
 /// bytes where it is seen by itself now, and nothing where it isn't. Each entry shows what it showed.
-#[tactic(auto, using(crate::proofs::Changing::shows_frame))]
+#[tactic(auto, using(crate::specs::Lemmas::Changing::shows_frame))]
 pub fn frame_law()
     ensures { ShowsFrame }
 {}
 
 /// A frame that shows the bytes that it showed before changes nothing of what is seen.
-#[tactic(auto, using(crate::proofs::Changing::shows_again))]
-pub fn again_law()
-    ensures { ShowsAgain }
+#[tactic(auto, using(crate::specs::Lemmas::Changing::shows_same_bytes))]
+pub fn same_bytes_law()
+    ensures { ShowsSameBytes }
 {}
 
 /// A frame that `disown` has taken from its owner shows its bytes while a loan is out, for it is nobody's then. Without
 /// a loan it is free, and shows nothing.
-#[tactic(auto, using(crate::proofs::Changing::shows_disowned))]
+#[tactic(auto, using(crate::specs::Lemmas::Changing::shows_disowned))]
 pub fn disowned_law()
     ensures { ShowsDisowned }
 {}
 
 /// A frame that `give` has given to a page shows nothing by itself. One given to a system buffer or a pool shows its
 /// bytes.
-#[tactic(auto, using(crate::proofs::Changing::shows_given))]
+#[tactic(auto, using(crate::specs::Lemmas::Changing::shows_given))]
 pub fn given_law()
     ensures { ShowsGiven }
 {}
@@ -69,13 +69,13 @@ pub fn ended_law()
 /// A loan that ends shows what was seen before where it doesn't change whether its frame is seen by itself: on a frame
 /// of a system buffer or a pool, on one of nobody while another loan is out, and on a page's frame unless it was the
 /// last strong loan.
-pub fn still_law()
-    ensures { ShowsStill }
+pub fn unseen_end_law()
+    ensures { ShowsUnseenEnd }
 {}
 
 /// The last loan on a frame of nobody takes the frame's bytes away as it ends: the frame is free.
-pub fn last_law()
-    ensures { ShowsLast }
+pub fn last_loan_law()
+    ensures { ShowsLastLoan }
 {}
 
 /// The last strong loan on a page's frame takes the frame's bytes away as it ends. The page's entries show them still.
@@ -84,7 +84,7 @@ pub fn unlent_law()
 {}
 
 /// Stored bytes leave the memory sound.
-#[tactic(auto, using(crate::proofs::Showing::keeps_sound))]
+#[tactic(auto, using(crate::specs::Lemmas::Showing::keeps_sound))]
 pub fn sound_law()
     ensures { KeepsSound }
 {}

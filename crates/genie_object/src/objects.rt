@@ -1,11 +1,10 @@
 //! The objects that hold the pages of regions.
-ghost use Rattle.std.specs.Prelude.{◌≡◌, ◌≢◌, ◌+◌, ◌<◌, ◌≤◌, not, [], ◌∷◌, ◌++◌, All, None, length, map, replicate, count_by, slice_set, IfOk, vec_capacity};
-ghost use Rattle.genie_base.specs.FreeLists.{IsFreeList};
-ghost use Rattle.genie_object.specs.Objects.{no_entry, object_at, entry_at, set_entry, is_absent, revoked};
+ghost use Rattle.std.specs.Prelude.{◌≡◌, ◌≢◌, ◌<◌, ◌≤◌, not, false, [], All, None, length, map, replicate, count_by, slice_set, IfOk};
+ghost use Rattle.genie_object.specs.Objects.{object_at, entry_at, set_entry, is_absent, no_entry, revoked};
 
 use crate::object::Object;
 use crate::pages::PageId;
-use genie_base::{NoMemory, ObjectId};
+use genie_base::{FreeList, NoMemory, ObjectId};
 use std::alloc::{AllocError, Global};
 use std::marker::Model;
 
@@ -38,11 +37,11 @@ pub struct Range {
 pub struct Objects {
     items: Vec<Object>,
     // The numbers of the objects that aren't there, each once.
-    free: Vec<u32>,
+    free: FreeList,
 }
 
 impl Model for Objects {
-    ghost use Rattle.std.specs.Prelude.{List, vec_capacity};
+    ghost use Rattle.std.specs.Prelude.{List};
     ghost use Rattle.genie_object.specs.declared.objects.Entry.{Entry};
     ghost use Rattle.genie_object.specs.Objects.{AreListed};
 
@@ -50,7 +49,7 @@ impl Model for Objects {
 
     ghost view = { λ a. a.items.items };
 
-    ghost invariant = { λ a. AreListed a.items.items a.free.items (vec_capacity a.free) };
+    ghost invariant = { λ a. AreListed a.items.items a.free.list a.free.room };
 }
 
 impl Objects {
@@ -59,7 +58,7 @@ impl Objects {
         ensures { IfOk result (λ objects. objects ≡ replicate 512 []) }
     {
         let items = all_empty(alloc)?;
-        let free = all_free(alloc)?;
+        let free = FreeList::below(alloc, OBJECTS)?;
         Ok(Objects { items, free })
     }
 
@@ -72,7 +71,7 @@ impl Objects {
         ensures was_absent { object_at self.old result.0 ≡ [] }
         ensures objects { self.new ≡ slice_set self.old result.0 (replicate pages no_entry) }
     {
-        let object = pop_free(&mut self.free);
+        let object = self.free.take();
         let entries = &mut self.items[object as usize];
         entries.reset(pages as usize);
         ObjectId(object)
@@ -86,7 +85,7 @@ impl Objects {
     {
         let entries = &mut self.items[object.0 as usize];
         entries.reset(0);
-        self.free.push_reserved(object.0);
+        self.free.give(object.0);
     }
 
     pub fn entry(&self, at: EntryRef) -> Entry
@@ -108,6 +107,16 @@ impl Objects {
         old
     }
 
+    /// Takes the write permission from one entry.
+    pub fn forbid_writing(&mut self, at: EntryRef)
+        requires { at.index < length (object_at self.old at.object.0) }
+        ensures { self.new ≡ set_entry self.old at.object.0 at.index (record (entry_at self.old at.object.0 at.index) { writable = false }) }
+    {
+        let mut entry = self.entry(at);
+        entry.writable = false;
+        self.replace(at, entry);
+    }
+
     /// How many entries the object has.
     pub fn pages(&self, object: ObjectId) -> u32
         requires { object_at self.now object.0 ≢ [] }
@@ -117,7 +126,9 @@ impl Objects {
         self.items[object.0 as usize].len() as u32
     }
 
-    /// Takes both permissions from each entry that names the page.
+    /// Takes both permissions from each entry that names the page, as a page needs that leaves its frame. It looks at all
+    /// entries, since many may share the page. Only the single entry of a page that isn't shared can permit writing, and
+    /// `forbid_writing` is enough for that.
     pub fn revoke(&mut self, page: PageId)
         ensures { self.new ≡ map (map (revoked page.0)) self.old }
     {
@@ -138,30 +149,6 @@ fn all_empty(alloc: Global) -> Result<Vec<Object>, AllocError>
 
 /// How many objects there may be.
 pub const OBJECTS: u32 = 512;
-
-// The numbers of the objects, all of them free.
-fn all_free(alloc: Global) -> Result<Vec<u32>, AllocError>
-    ensures list { IfOk result (λ v. IsFreeList is_absent (no_entry ∷ []) (replicate 512 []) v.items) }
-    ensures room { IfOk result (λ v. 512 ≤ vec_capacity v) }
-{
-    let mut all = Vec::with_capacity(alloc, OBJECTS as usize)?;
-    for object in 0..OBJECTS {
-        all.push_reserved(object);
-    }
-    Ok(all)
-}
-
-// The last object of the list.
-fn pop_free(free: &mut Vec<u32>) -> u32
-    requires { 0 < length free.old.items }
-    ensures items { free.old.items ≡ free.new.items ++ result ∷ [] }
-    ensures room { vec_capacity free.new ≡ vec_capacity free.old }
-{
-    let Some(object) = free.pop() else {
-        unreachable!()
-    };
-    object
-}
 
 #[tactic(auto, using(crate::proofs::Mapped::mapped_more))]
 fn revoke_objects(objects: &mut [Object], page: PageId)

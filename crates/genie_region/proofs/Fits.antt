@@ -5,7 +5,7 @@ use Rattle.std.proofs.lemmas.List.Folds.{list_all_at}
 use Rattle.genie_base.specs.Regions.{AreInOrder, is_apart, is_free, place}
 use Rattle.genie_region.specs.declared.region.Region.{Region}
 use Rattle.genie_region.specs.Layouts.{extent, end_of, IsLowestFit}
-use Rattle.genie_base.proofs.Searches.{all_pass, find_least, find_no_number}
+use Rattle.genie_base.specs.Lemmas.Searches.{all_pass, find_least, find_no_number}
 
 -- the pages between the regions that end before them and those that start after them are free
 pub free_between : (rs : List Region) (d : Region) (start pages n : ℕ) → ((i : ℕ) → i < n → i < length rs → end_of (get_or rs i d) ≤ start) → ((i : ℕ) → n ≤ i → i < length rs → start + pages ≤ (get_or rs i d).start) → is_free extent start pages rs ≡ true

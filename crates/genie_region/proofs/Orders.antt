@@ -17,7 +17,7 @@ use Rattle.genie_base.specs.declared.region.RegionState.TheVariants.{Live}
 use Rattle.genie_base.specs.Regions.{Extent, AreInOrder, add_in_order, is_apart, is_free, is_reached, reach}
 use Rattle.genie_region.specs.declared.region.Region.{Region}
 use Rattle.genie_region.specs.Layouts.{extent, end_of, ends_by, starts_by, has_id, region_of, without, with_region, IsLayout}
-use Rattle.genie_base.proofs.Searches.{find_fails, find_only, find_none, map_only, pairs_mapped, remove_only}
+use Rattle.genie_base.specs.Lemmas.Searches.{find_fails, find_only, find_none, map_only, pairs_mapped, remove_only}
 
 -- the region that a list is read with past its end
 abbrev pub blank : Region

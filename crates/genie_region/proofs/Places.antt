@@ -3,7 +3,7 @@ use Rattle.std.proofs.Common.{◌-◌, arith}
 use Rattle.genie_base.specs.Regions.{is_free}
 use Rattle.genie_region.specs.Laws.{PlaceIsLowest, NoPlaceIsFull, OrderStays}
 use Rattle.genie_region.specs.Layouts.{extent}
-use Rattle.genie_base.proofs.Searches.{least_found, none_found}
+use Rattle.genie_base.specs.Lemmas.Searches.{least_found, none_found}
 use Rattle.genie_region.proofs.Orders.{order_kept}
 
 pub place_is_lowest : PlaceIsLowest

@@ -1,8 +1,8 @@
 -- The regions of a process, in order.
-use Rattle.std.specs.Prelude.{◌≡◌, ◌≢◌, ℕ, ◌+◌, ◌*◌, ◌<◌, ◌≤◌, Bool, true, false, not, ◌==◌, nat_le, List, length, find, filter, map, Option, if◌then◌else◌}
+use Rattle.std.specs.Prelude.{◌≡◌, ◌≢◌, ℕ, ◌+◌, ◌*◌, ◌<◌, ◌≤◌, Bool, true, false, not, ◌==◌, ◌&&◌, nat_le, List, length, find, filter, map, Option, if◌then◌else◌}
 use Rattle.std.specs.List.{AllPairs}
 use Rattle.genie_base.specs.declared.numbers.RegionId.{RegionId}
-use Rattle.genie_base.specs.Regions.{Extent, AreInOrder, is_free}
+use Rattle.genie_base.specs.Regions.{Extent, AreInOrder, is_free, is_accessible}
 use Rattle.genie_region.specs.declared.region.Region.{Region}
 
 abbrev pub extent : Region → Extent
@@ -19,6 +19,10 @@ ends_by page r = nat_le (end_of r) page
 -- it starts at this address, or before
 abbrev pub starts_by : ℕ → ℕ → Region → Bool
 starts_by page addr r = nat_le (r.start * page) addr
+
+-- an access may reach it, and it starts at this page
+abbrev pub starts_at : ℕ → Region → Bool
+starts_at page r = is_accessible r.state && (r.start == page)
 
 abbrev pub has_id : RegionId → Region → Bool
 has_id id r = r.id.0 == id.0

@@ -1,7 +1,7 @@
 //! One region.
 ghost use Rattle.std.specs.Prelude.{◌≡◌, ◌+◌, ◌*◌, ◌<◌, ◌^◌};
 ghost use Rattle.genie_base.specs.Regions.{is_accessible, is_apart, is_reached};
-ghost use Rattle.genie_region.specs.Layouts.{end_of, extent, has_id, starts_by, ends_by};
+ghost use Rattle.genie_region.specs.Layouts.{end_of, extent, has_id, starts_at, starts_by, ends_by};
 
 use genie_base::{Area, ObjectId, PageSize, RegionId, RegionState};
 
@@ -61,6 +61,13 @@ impl Region {
         ensures { result ≡ has_id id self.now }
     {
         self.id == id
+    }
+
+    /// Whether an access may reach it, and it starts at this page.
+    pub(crate) fn starts_at(&self, page: u32) -> bool
+        ensures { result ≡ starts_at page self.now }
+    {
+        self.accessible() && self.start == page
     }
 
     /// Whether no page of the `pages` from page `start` on lies in it.

@@ -2,7 +2,7 @@
 ghost use Rattle.std.specs.Prelude.{◌≡◌, ◌+◌, ◌<◌, ◌≤◌, ◌^◌, ℕ, List, [], length, Option, Some, IsTrue, IsSome, IsNone, false, true, find, slice_get, position};
 ghost use Rattle.std.specs.List.Sorted.{IsPartitionPoint};
 ghost use Rattle.genie_base.specs.Regions.{AreInOrder, add_in_order, is_free, place as place_of, reach, write_reach};
-ghost use Rattle.genie_region.specs.Layouts.{IsLayout, IsLowestFit, extent, has_id, region_of, ends_by, starts_by, with_region, without};
+ghost use Rattle.genie_region.specs.Layouts.{IsLayout, IsLowestFit, extent, has_id, starts_at, region_of, ends_by, starts_by, with_region, without};
 
 use crate::region::Region;
 use arrayvec::ArrayVec;
@@ -67,6 +67,13 @@ impl Regions {
         ensures { result ≡ region_of id self.now }
     {
         with_id(self.regions.as_slice(), id)
+    }
+
+    /// The region that an access may reach and that starts at this page, or `None` where there is none.
+    pub fn starting_at(&self, page: u32) -> Option<Region>
+        ensures { result ≡ find (starts_at page) self.now }
+    {
+        with_start(self.regions.as_slice(), page)
     }
 
     /// Whether no page of the `pages` from page `start` on lies in a region.
@@ -211,6 +218,21 @@ fn with_id(regions: &[Region], id: RegionId) -> Option<Region>
 {
     let at = place_of_id(regions, id)?;
     Some(regions[at])
+}
+
+/// The region that an access may reach and that starts at this page.
+fn with_start(regions: &[Region], page: u32) -> Option<Region>
+    ensures { result ≡ find (starts_at page) regions.now }
+{
+    let at = place_of_start(regions, page)?;
+    Some(regions[at])
+}
+
+/// Where it is.
+fn place_of_start(regions: &[Region], page: u32) -> Option<usize>
+    ensures { result ≡ position (starts_at page) regions.now }
+{
+    regions.iter().position(|r| r.starts_at(page))
 }
 
 /// Where the region with this number is.

@@ -6,7 +6,7 @@ use Rattle.std.proofs.lemmas.List.{length-set}
 use Rattle.std.proofs.lemmas.List.Elements.{All-replicate, All-set}
 use Rattle.std.proofs.lemmas.Grind.{get_or-set_at}
 use Rattle.std.proofs.lemmas.List.{length-append}
-use Rattle.genie_base.proofs.Places.{count_by-set, num}
+use Rattle.genie_base.specs.Lemmas.Places.{count_by-set, num}
 use Rattle.genie_base.specs.Configs.{Config, Fits, FitsDevice, FitsPlace, pool_of, most_depth, offset_end}
 use Rattle.genie_script.specs.declared.judge.BootLine.{BootLine}
 use Rattle.genie_script.specs.declared.line.DeviceLine.{DeviceLine}

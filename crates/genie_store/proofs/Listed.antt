@@ -1,14 +1,25 @@
 -- The list of free slots, from call to call.
-use Rattle.std.proofs.Common.{◌≡◌, ℕ, ◌<◌, Bool, true, false, not, List, [], ◌∷◌, ◌++◌, refl, arith, ap, length, set, get_or, sym, ◌∙◌, subst, length-set, inl, inr}
+use Rattle.std.proofs.Common.{◌≡◌, ℕ, ◌<◌, ◌^◌, Bool, true, false, not, List, [], ◌∷◌, ◌++◌, refl, arith, ap, length, set, get_or, sym, ◌∙◌, subst, length-set, inl, inr}
 use Rattle.std.proofs.lemmas.Bool.{cases_lt}
-use Rattle.genie_base.specs.FreeLists.{IsFreeList}
-use Rattle.genie_base.proofs.Places.{any_default, past_end}
-use Rattle.genie_base.proofs.FreeLists.{last_there, last_free, popped, listed_set, one_spare}
+use Rattle.std.specs.Prelude.{replicate}
+use Rattle.std.specs.List.{range_with_len}
+use Rattle.std.proofs.lemmas.List.{length-replicate}
+use Rattle.genie_base.specs.FreeLists.{FreeNumbers, IsFreeList}
+use Rattle.genie_base.specs.Lemmas.Places.{any_default, past_end}
+use Rattle.genie_base.specs.Lemmas.FreeLists.{all_listed, last_there, last_free, popped, listed_set, one_spare}
 use Rattle.genie_store.specs.Slots.{AreListed}
 
 not_free : (b : Bool) → not b ≡ true → b ≡ false
 not_free true e = cc
 not_free false e = refl
+
+-- no slot is taken at first
+pub none_taken : (n : ℕ) (slots : List Bool) (free : FreeNumbers) → slots ≡ replicate n false → free ≡ record { list = range_with_len 0 n; room = n } → n < 2 ^ 32 → AreListed slots free.list free.room
+none_taken n slots free s f small = rw (s, f) (record {
+  list = all_listed not true false refl refl n;
+  spare = omega (arith, length-replicate n false);
+  most = omega (arith, length-replicate n false, small);
+})
 
 -- the last slot of the free list is taken
 module _ (slots : List Bool) (free rest : List ℕ) (s room : ℕ) (kept : AreListed slots free room) (e : free ≡ rest ++ s ∷ []) where

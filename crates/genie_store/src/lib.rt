@@ -3,7 +3,6 @@
 
 pub mod failing;
 pub mod memory;
-mod slot;
 pub mod slots;
 pub mod store;
 

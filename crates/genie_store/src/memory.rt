@@ -1,16 +1,16 @@
 //! A store in memory.
 ghost use Rattle.std.specs.Prelude.{◌≡◌, ◌<◌, ◌≤◌, [], All, length, replicate, IsOk, IfOk, IfErr};
 
-use crate::slot::SlotBytes;
 use crate::store::{Store, StoreFault, StoreRefused};
-use std::alloc::{AllocError, Global};
+use genie_base::{FixedBytes, NoMemory};
+use std::alloc::Global;
 
 /// A store in memory. It fails only where `size` finds no memory, and tells all bytes.
 #[derive(Drop)]
 pub struct MemoryStore {
     alloc: Global,
     page: u32,
-    slots: Vec<SlotBytes>,
+    slots: Vec<FixedBytes>,
     ghost full: { All (λ b. length b ≡ page) slots.items },
 }
 
@@ -59,7 +59,7 @@ impl Store for MemoryStore {
         ensures works { IsOk result }
     {
         let bytes = &mut self.slots[slot as usize];
-        bytes.store(from);
+        bytes.fill(from);
         Ok(())
     }
 
@@ -77,12 +77,12 @@ impl Store for MemoryStore {
 }
 
 // So many slots of zeros.
-fn blank(alloc: Global, slots: usize, page: usize) -> Result<Vec<SlotBytes>, AllocError>
+fn blank(alloc: Global, slots: usize, page: usize) -> Result<Vec<FixedBytes>, NoMemory>
     ensures { IfOk result (λ v. v.items ≡ replicate slots (replicate page 0)) }
 {
     let mut all = Vec::with_capacity(alloc, slots)?;
     for _ in 0..slots {
-        all.push_reserved(SlotBytes::zeros(alloc, page)?);
+        all.push_reserved(FixedBytes::zeros(alloc, page)?);
     }
     Ok(all)
 }

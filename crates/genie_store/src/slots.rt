@@ -1,10 +1,9 @@
 //! Which slots of the store are taken.
-ghost use Rattle.std.specs.Prelude.{◌≡◌, ◌+◌, ◌<◌, ◌≤◌, not, true, false, [], ◌∷◌, ◌++◌, length, replicate, count_by, IfOk, slice_set, vec_capacity};
-ghost use Rattle.genie_base.specs.FreeLists.{IsFreeList};
+ghost use Rattle.std.specs.Prelude.{◌≡◌, ◌<◌, not, true, false, length, replicate, count_by, IfOk, slice_set};
 ghost use Rattle.genie_store.specs.Slots.{slot_at};
 
-use genie_base::NoMemory;
-use std::alloc::{AllocError, Global};
+use genie_base::{FreeList, NoMemory};
+use std::alloc::Global;
 use std::marker::Model;
 
 /// The slots of the store, each of them taken or not. A slot is taken and given back in constant time. Contracts see
@@ -13,18 +12,18 @@ use std::marker::Model;
 pub struct Slots {
     taken: Vec<bool>,
     // The numbers of the free slots, each once.
-    free: Vec<u32>,
+    free: FreeList,
 }
 
 impl Model for Slots {
-    ghost use Rattle.std.specs.Prelude.{List, Bool, vec_capacity};
+    ghost use Rattle.std.specs.Prelude.{List, Bool};
     ghost use Rattle.genie_store.specs.Slots.{AreListed};
 
     ghost Value = { List Bool };
 
     ghost view = { λ a. a.taken.items };
 
-    ghost invariant = { λ a. AreListed a.taken.items a.free.items (vec_capacity a.free) };
+    ghost invariant = { λ a. AreListed a.taken.items a.free.list a.free.room };
 }
 
 impl Slots {
@@ -33,7 +32,7 @@ impl Slots {
         ensures { IfOk result (λ slots. slots ≡ replicate pages false) }
     {
         let taken = vec![in alloc; false; pages as usize]?;
-        let free = all_free(alloc, pages)?;
+        let free = FreeList::below(alloc, pages)?;
         Ok(Slots { taken, free })
     }
 
@@ -41,7 +40,7 @@ impl Slots {
     pub fn free(&self) -> u32
         ensures { result ≡ count_by not self.now }
     {
-        self.free.len() as u32
+        self.free.len()
     }
 
     /// Takes a free slot. Which one isn't said.
@@ -51,7 +50,7 @@ impl Slots {
         ensures was_free { slot_at self.old result ≡ false }
         ensures slots { self.new ≡ slice_set self.old result true }
     {
-        let slot = pop_free(&mut self.free);
+        let slot = self.free.take();
         self.taken[slot as usize] = true;
         slot
     }
@@ -62,30 +61,6 @@ impl Slots {
         ensures { self.new ≡ slice_set self.old slot false }
     {
         self.taken[slot as usize] = false;
-        self.free.push_reserved(slot);
+        self.free.give(slot);
     }
-}
-
-// The numbers of n slots, all of them free.
-fn all_free(alloc: Global, n: u32) -> Result<Vec<u32>, AllocError>
-    ensures list { IfOk result (λ v. IsFreeList not true (replicate n false) v.items) }
-    ensures room { IfOk result (λ v. n ≤ vec_capacity v) }
-{
-    let mut all = Vec::with_capacity(alloc, n as usize)?;
-    for slot in 0..n {
-        all.push_reserved(slot);
-    }
-    Ok(all)
-}
-
-// The last slot of the list.
-fn pop_free(free: &mut Vec<u32>) -> u32
-    requires { 0 < length free.old.items }
-    ensures items { free.old.items ≡ free.new.items ++ result ∷ [] }
-    ensures room { vec_capacity free.new ≡ vec_capacity free.old }
-{
-    let Some(slot) = free.pop() else {
-        unreachable!()
-    };
-    slot
 }

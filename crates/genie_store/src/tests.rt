@@ -1,8 +1,7 @@
-//! Each call of a store and of the slots, a call that fails and then works, and the largest tables.
-ghost use Rattle.std.specs.Prelude.{◌≡◌, ◌<◌, not, length, count_by};
+//! Each call of a store and of the slots, and a call that fails and then works.
+ghost use Rattle.std.specs.Prelude.{◌≡◌, ◌<◌};
 
 use crate::{FailingStore, MemoryStore, Slots, Store, StoreFault};
-use std::process::Abort;
 
 // Puts a page of one byte's value in slot 0 or 1 of a store with 2 slots of 16 bytes.
 fn put<S: Store>(store: &mut S, slot: u32, byte: u8) -> Result<(), StoreFault>
@@ -66,28 +65,6 @@ fn a_get_fails_and_then_works(rt: HostRuntime) {
     assert_eq!(rt; get(&mut store, 0), (Ok(()), [4; 16]));
 }
 
-// Puts a page of sevens in the last of 8,192 slots of 4,096 bytes. Answers whether it is there, and the slot before it
-// has zeros.
-fn last_keeps<S: Store>(store: &mut S) -> bool
-    requires count { (S.view store.old).count ≡ 8192 }
-    requires page { (S.view store.old).page ≡ 4096 }
-{
-    let mut before = [9; 4096];
-    let mut last = [9; 4096];
-    store.put(8191, &[7; 4096]).is_ok()
-        && store.get(8190, &mut before).is_ok()
-        && store.get(8191, &mut last).is_ok()
-        && before == [0; 4096]
-        && last == [7; 4096]
-}
-
-#[test]
-fn the_largest_store(rt: HostRuntime) {
-    let mut store = MemoryStore::new(rt.alloc());
-    assert_eq!(rt; store.size(8192, 4096), Ok(()));
-    assert!(rt; last_keeps(&mut store));
-}
-
 #[test]
 fn slots_go_and_come_back(rt: HostRuntime) {
     let mut slots = Slots::new(rt.alloc(), 2).expect(&rt, "memory");
@@ -98,34 +75,4 @@ fn slots_go_and_come_back(rt: HostRuntime) {
     slots.back(first);
     assert_eq!(rt; slots.free(), 1);
     assert_eq!(rt; slots.take(), first);
-}
-
-// Takes 8,192 slots.
-fn take_all(rt: &impl Abort, slots: &mut Slots)
-    ensures { length slots.new ≡ length slots.old }
-{
-    for turn in 0..8192 {
-        assert_eq!(rt; slots.free(), 8192 - turn);
-        slots.take();
-    }
-}
-
-// Gives 8,192 slots back, all of which are taken.
-fn give_all_back(rt: &impl Abort, slots: &mut Slots)
-    requires taken { count_by not slots.old ≡ 0 }
-    requires number { length slots.old ≡ 8192 }
-{
-    for slot in 0..8192 {
-        slots.back(slot);
-        assert_eq!(rt; slots.free(), slot + 1);
-    }
-}
-
-#[test]
-fn the_most_slots(rt: HostRuntime) {
-    let mut slots = Slots::new(rt.alloc(), 8192).expect(&rt, "memory");
-    take_all(&rt, &mut slots);
-    assert_eq!(rt; slots.free(), 0);
-    give_all_back(&rt, &mut slots);
-    assert_eq!(rt; slots.free(), 8192);
 }

@@ -5,7 +5,7 @@ use Rattle.std.specs.List.{list_any}
 use Rattle.std.proofs.lemmas.Bool.{cond_both}
 use Rattle.std.proofs.lemmas.List.Elements.{All-cons, All-head, All-tail, All-map, All-filter, All-weaker}
 use Rattle.std.proofs.lemmas.List.Kept.{AllPairs-cons, AllPairs-filter}
-use Rattle.genie_base.proofs.Searches.{pairs_mapped}
+use Rattle.genie_base.specs.Lemmas.Searches.{pairs_mapped}
 use Rattle.genie_base.specs.declared.event.Event.{Event}
 use Rattle.genie_orderly.specs.Steps.{Stays}
 use Rattle.genie_orderly.specs.Orderly.{region_numbers, orphan_numbers, OrphansRise, OrphanPlacesRise}

@@ -7,7 +7,7 @@ use Rattle.std.proofs.lemmas.List.Elements.{All-cons, All-head, All-tail, All-ma
 use Rattle.std.proofs.lemmas.List.Kept.{AllPairs-cons, AllPairs-filter}
 use Rattle.std.proofs.lemmas.List.Sums.{sum_by-cons, length-filter, count_by-le-length}
 use Rattle.std.proofs.lemmas.List.{length-map}
-use Rattle.genie_base.proofs.Searches.{pairs_mapped}
+use Rattle.genie_base.specs.Lemmas.Searches.{pairs_mapped}
 use Rattle.genie_base.specs.Regions.{Extent, AreInOrder, add_in_order, is_apart}
 use Rattle.genie_orderly.specs.Orderly.{IsRegion, AreApart}
 use Rattle.genie_model.specs.Regions.{extent_of}

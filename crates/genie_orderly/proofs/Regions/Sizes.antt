@@ -4,7 +4,7 @@ use Rattle.std.specs.Prelude.{Option, Some, None, All, cond, sum_by, slice_set, 
 use Rattle.std.proofs.lemmas.List.{length-map, length-replicate}
 use Rattle.std.proofs.lemmas.List.Elements.{All-map, All-weaker, All-set}
 use Rattle.std.proofs.lemmas.List.Sums.{sum_by-cons}
-use Rattle.genie_base.proofs.Overlaid.{length-overlaid}
+use Rattle.genie_base.specs.Lemmas.Overlaid.{length-overlaid}
 use Rattle.genie_base.specs.Configs.{Config}
 use Rattle.genie_base.specs.declared.region.RegionState.{RegionState}
 use Rattle.genie_base.specs.declared.region.RegionState.TheVariants.{Out, In}

@@ -14,7 +14,7 @@ use Rattle.genie_model.specs.lemmas.Lists.{Has, all_has, find_has, at_entry}
 use Rattle.genie_orderly.specs.lemmas.FoundRegions.{all_of, has_region}
 use Rattle.genie_orderly.specs.lemmas.ChangedRegions.{InPlace, in_place_by}
 use Rattle.std.proofs.lemmas.List.{length-replicate}
-use Rattle.genie_base.proofs.Overlaid.{length-overlaid}
+use Rattle.genie_base.specs.Lemmas.Overlaid.{length-overlaid}
 use Rattle.genie_model.specs.Ending.{filled}
 
 pub in_place_state : (s t : State) (k : ℕ) (state : RegionState) (g : Process → Process) → t.processes ≡ map (change_process g) s.processes → t.orphans ≡ s.orphans → ((p : Process) → (g p).regions ≡ map (changed k (with_state state)) p.regions) → InPlace s t k (with_state state)

@@ -1,6 +1,6 @@
 use Rattle.std.proofs.Common.{◌≡◌, ℕ, ◌+◌, ◌-◌, List, length, take, sym, ◌∙◌, arith}
 use Rattle.std.proofs.lemmas.List.{length-take-le}
-use Rattle.genie_base.proofs.Overlaid.{overlaid-past, overlaid-pieces, overlaid-cut}
+use Rattle.genie_base.specs.Lemmas.Overlaid.{overlaid-past, overlaid-pieces, overlaid-cut}
 use Rattle.genie_base.proofs.bytes.overlay.Goals as goal
 
 pub returns-then-at-into : goal.returns-then-at-into

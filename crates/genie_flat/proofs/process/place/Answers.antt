@@ -1,6 +1,6 @@
 use Rattle.std.proofs.Common.{◌-◌, sym, ◌∙◌, arith}
 use Rattle.genie_base.specs.Regions.{is_free}
-use Rattle.genie_base.proofs.Searches.{find_least, find_no_number}
+use Rattle.genie_base.specs.Lemmas.Searches.{find_least, find_no_number}
 use Rattle.genie_model.specs.Regions.{extent_of}
 use Rattle.genie_flat.proofs.process.place.Goals as goal
 

@@ -2,7 +2,7 @@ use Rattle.std.proofs.Common.{sym, refl, ap, ◌∙◌}
 use Rattle.std.specs.Prelude.{is_some}
 use Rattle.genie_region.specs.declared.region.Region.{Region}
 use Rattle.genie_region.specs.Layouts.{has_id}
-use Rattle.genie_base.proofs.Searches.{position_there}
+use Rattle.genie_base.specs.Lemmas.Searches.{position_there}
 use Rattle.genie_region.proofs.Orders.{changed_at, layout_with}
 use Rattle.genie_region.proofs.regions.change_writable.Goals as goal
 

@@ -1,6 +1,6 @@
 use Rattle.std.proofs.Common.{sym, ◌∙◌}
 use Rattle.genie_region.specs.Layouts.{has_id}
-use Rattle.genie_base.proofs.Searches.{find_there, find_nowhere}
+use Rattle.genie_base.specs.Lemmas.Searches.{find_there, find_nowhere}
 use Rattle.genie_region.proofs.Orders.{blank}
 use Rattle.genie_region.proofs.regions.with_id.Goals as goal
 

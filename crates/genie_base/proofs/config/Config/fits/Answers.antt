@@ -5,7 +5,7 @@ use Rattle.std.proofs.lemmas.List.{length-map}
 use Rattle.std.proofs.lemmas.List.Elements.{All-map}
 use Rattle.std.proofs.lemmas.Bool.Decides.{nat_tests}
 use Rattle.genie_base.specs.Configs.{config_of, device_config, Fits, FitsPlace}
-use Rattle.genie_base.proofs.Mapped.{All-from_map}
+use Rattle.genie_base.specs.Lemmas.Mapped.{All-from_map}
 use Rattle.genie_base.proofs.config.Config.fits.Goals as goal
 
 -- what is there has its reason

@@ -2,7 +2,7 @@ use Rattle.std.proofs.Common.{◌≡◌, sym, ap, ◌∙◌}
 use Rattle.std.specs.Prelude.{position, Some}
 use Rattle.std.proofs.lemmas.List.Quantifiers.{position-Some}
 use Rattle.genie_base.specs.Posted.{meets}
-use Rattle.genie_base.proofs.Searches.{find_there, find_nowhere}
+use Rattle.genie_base.specs.Lemmas.Searches.{find_there, find_nowhere}
 use Rattle.genie_demux.specs.declared.input.Input.{Input}
 use Rattle.genie_demux.specs.Posted.{address, number_of}
 use Rattle.genie_demux.proofs.Queues.{least, taken_at}

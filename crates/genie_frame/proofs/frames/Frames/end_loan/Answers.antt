@@ -2,7 +2,7 @@ use Rattle.std.proofs.Common.{◌≡◌, ◌<◌, ap, ◌∙◌, arith, subst, l
 use Rattle.genie_frame.specs.FrameTable.{FrameTable, Agree, owner_at, counts_at}
 use Rattle.genie_frame.specs.declared.frame.Owner.TheVariants.{Free}
 use Rattle.genie_frame.specs.Frames.{left_to}
-use Rattle.genie_base.proofs.Places.{any_default}
+use Rattle.genie_base.specs.Lemmas.Places.{any_default}
 use Rattle.genie_frame.proofs.Kept.{lent_taken, left_agrees, lent_set, lent_left}
 use Rattle.genie_frame.proofs.frames.Frames.end_loan.Goals as goal
 

@@ -11,4 +11,4 @@ list_free-requires c =
 pub invariant_of-self : goal.invariant_of-self
 invariant_of-self c =
     let there : c.args.f.0 < length c.self.inside.owners.items = omega (arith, ap (λ (t : FrameTable). length t.owners) c.self.view_is) in
-    rw (c.list_free.ensures.items, c.list_free.ensures.room) (kept_owner _ _ _ _ _ _ c.args.f.0 there c.self.invariant c.args.owner c.args.counts (ap (λ (t : FrameTable). is_free (owner_at t c.args.f.0)) c.self.view_is ∙ c.requires.taken) c.requires.agree)
+    rw c.list_free.ensures (kept_owner _ _ _ _ _ _ c.args.f.0 there c.self.invariant c.args.owner c.args.counts (ap (λ (t : FrameTable). is_free (owner_at t c.args.f.0)) c.self.view_is ∙ c.requires.taken) c.requires.agree)

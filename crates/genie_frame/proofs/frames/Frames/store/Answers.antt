@@ -1,6 +1,6 @@
 use Rattle.std.proofs.Common.{◌<◌, ap, ◌∙◌, arith, length}
 use Rattle.genie_frame.specs.FrameTable.{FrameTable}
-use Rattle.genie_base.proofs.Overlaid.{length-overlaid}
+use Rattle.genie_base.specs.Lemmas.Overlaid.{length-overlaid}
 use Rattle.genie_frame.proofs.Kept.{kept_size}
 use Rattle.genie_frame.proofs.frames.Frames.store.Goals as goal
 

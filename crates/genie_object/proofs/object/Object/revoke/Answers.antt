@@ -1,7 +1,7 @@
 use Rattle.std.proofs.Common.{ap, sym, ◌∙◌, length, take, map}
 use Rattle.genie_object.proofs.object.Object.revoke.Goals as goal
 use Rattle.std.proofs.lemmas.List.{take-map, length-map}
-use Rattle.genie_frame.proofs.Runs.{refilled}
+use Rattle.genie_base.specs.Lemmas.Runs.{refilled}
 use Rattle.genie_object.specs.Objects.{revoked}
 
 pub returns-then-self-gt0 : goal.returns-then-self-gt0

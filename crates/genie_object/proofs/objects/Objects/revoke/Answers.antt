@@ -1,9 +1,9 @@
 use Rattle.std.proofs.Common.{ap, sym, ◌∙◌, length, map}
 use Rattle.genie_object.proofs.objects.Objects.revoke.Goals as goal
 use Rattle.std.proofs.lemmas.List.{length-map}
-use Rattle.genie_frame.proofs.Runs.{refilled}
+use Rattle.genie_base.specs.Lemmas.Runs.{refilled}
 use Rattle.genie_object.specs.Objects.{revoked}
-use Rattle.genie_object.proofs.ObjectLaws.{all_mapped}
+use Rattle.genie_object.specs.Lemmas.ObjectLaws.{all_mapped}
 
 pub invariant_of-self : goal.invariant_of-self
 invariant_of-self c =

@@ -1,7 +1,7 @@
 use Rattle.std.proofs.Common.{◌≡◌, sym, ap, ◌∙◌}
 use Rattle.std.specs.Prelude.{is_some, position, Some}
 use Rattle.genie_region.specs.Layouts.{IsLayout, has_id, without}
-use Rattle.genie_base.proofs.Searches.{position_there}
+use Rattle.genie_base.specs.Lemmas.Searches.{position_there}
 use Rattle.genie_region.proofs.Orders.{found_at, removed_at, layout_without}
 use Rattle.genie_region.proofs.regions.Regions.remove.Goals as goal
 

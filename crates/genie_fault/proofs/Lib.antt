@@ -1,0 +1,4 @@
+pub mod Bringing
+pub mod Loading
+pub mod Ranging
+pub mod Resolved
