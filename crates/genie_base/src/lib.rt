@@ -22,7 +22,7 @@ pub use crate::counts::{cost, span};
 pub use crate::event::Event;
 pub use crate::no_memory::NoMemory;
 pub use crate::numbers::{Addr, DevNo, ObjectId, PageNo, Pid, Port, RegionId, TransferId};
-pub use crate::page_bytes::PageBytes;
+pub use crate::page_bytes::{PageBuffer, PageBytes};
 pub use crate::page_size::PageSize;
 pub use crate::refusal::Refusal;
 pub use crate::region::{Area, RegionState};
