@@ -1,9 +1,11 @@
 #!/usr/bin/env python3
-"""Writes a script with 48 datagrams of 61,440 bytes, its three input files, and the replies that are expected.
+"""Writes a script with 48 datagrams of 61,440 bytes, its three input files, and the replies and outputs expected.
 
 Each of three devices, early, pooled and outboard, receives eight datagrams, one by each semantics, and sends each of
 them again. So each output has to be equal to its input. The files are written to the current folder.
 """
+
+import os
 
 PAYLOAD = 61440
 RECORD = PAYLOAD + 8
@@ -39,16 +41,18 @@ def main():
     boot += [f"device {d} {kind} i{d} o{d} 1 0" for d, kind in enumerate(KINDS)]
     lines = []
     number = 1
+    os.makedirs("expected", exist_ok=True)
     for device in range(3):
         lines += [(f"spawn {device}", "ok"), (f"map {device} 0 15", "ok")]
         for semantics in SEMANTICS:
             lines += datagram(device, semantics, number)
             number += 2
-        with open(f"i{device}", "wb") as file:
-            file.write(stream())
+        for name in [f"i{device}", f"expected/o{device}"]:
+            with open(name, "wb") as file:
+                file.write(stream())
     with open("datagrams", "w") as file:
         file.write("\n".join(boot + [line for line, _ in lines]) + "\n")
-    with open("expected", "w") as file:
+    with open("expected/replies", "w") as file:
         file.write("\n".join(["ok"] + [reply for _, reply in lines]) + "\n")
 
 

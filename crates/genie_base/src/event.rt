@@ -7,7 +7,7 @@ use crate::semantics::Semantics;
 
 /// One event. Addresses, lengths and budgets are in bytes.
 #[derive(Drop)]
-pub enum Event {
+pub enum Event<'a> {
     Spawn {
         pid: u32,
     },
@@ -44,7 +44,7 @@ pub enum Event {
     Write {
         pid: u32,
         addr: u32,
-        bytes: PageBytes,
+        bytes: PageBytes<'a>,
     },
     Output {
         pid: u32,
@@ -83,7 +83,7 @@ pub enum Event {
     },
 }
 
-impl Event {
+impl<'a> Event<'a> {
     /// Whether a script line spells it: an input names an address exactly where the application allocates its
     /// buffer, and a write has a byte.
     pub fn whole(&self) -> bool

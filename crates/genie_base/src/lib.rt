@@ -26,7 +26,7 @@ pub use crate::fixed_bytes::FixedBytes;
 pub use crate::free_list::FreeList;
 pub use crate::no_memory::NoMemory;
 pub use crate::numbers::{Addr, DevNo, ObjectId, PageNo, Pid, Port, RegionId, TransferId};
-pub use crate::page_bytes::PageBytes;
+pub use crate::page_bytes::{PageBuffer, PageBytes};
 pub use crate::page_size::PageSize;
 pub use crate::refusal::Refusal;
 pub use crate::region::{Area, RegionState};

@@ -17,9 +17,9 @@ pub enum Note {
 
 /// One reply. Counts are in bytes.
 #[derive(Drop)]
-pub enum Reply {
+pub enum Reply<'a> {
     Okay,
-    Bytes(PageBytes),
+    Bytes(PageBytes<'a>),
     At {
         addr: u32,
     },
@@ -73,7 +73,7 @@ pub enum Mark {
 
 impl Mark {
     /// The mark that a reply shows.
-    pub fn of(reply: &Reply) -> Mark
+    pub fn of(reply: &Reply<'_>) -> Mark
         ensures { result ≡ mark_of reply.now }
     {
         match reply {

@@ -1,7 +1,7 @@
 //! Worked values that no clause says.
 
 use crate::{
-    Class, Config, DeviceConfig, Direction, Event, Kind, Mark, PageBytes, PageSize, Refusal, Reply,
+    Class, Config, DeviceConfig, Direction, Event, Kind, Mark, PageBuffer, PageBytes, PageSize, Refusal, Reply,
     Semantics, cost, overlay, part, span,
 };
 
@@ -87,23 +87,21 @@ fn limits_are_kept(rt: HostRuntime) {
 
 #[test]
 fn events_and_replies_tell(rt: HostRuntime) {
-    let mut bytes = PageBytes::new();
+    let mut bytes = PageBuffer::new();
     let empty = Event::Write {
         pid: 0,
         addr: 0,
-        bytes: PageBytes::from_slice(&[]),
+        bytes: PageBytes::new(&[]),
     };
     assert!(rt; !empty.whole());
     bytes.push(0xaa);
-    assert_eq!(rt; bytes.as_slice(), [0xaa].as_slice());
-    assert!(rt;
-        Event::Write {
-            pid: 0,
-            addr: 0,
-            bytes
-        }
-        .whole()
-    );
+    assert_eq!(rt; bytes.lend().as_slice(), [0xaa].as_slice());
+    let one = Event::Write {
+        pid: 0,
+        addr: 0,
+        bytes: bytes.lend(),
+    };
+    assert!(rt; one.whole());
     let input = Event::Input {
         pid: 0,
         sem: Semantics::Move,

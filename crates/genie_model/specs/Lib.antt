@@ -1,10 +1,5 @@
-pub mod Changes
 pub mod Ending
-pub mod Flat
 pub mod Inputs
-pub mod Integrity
-pub mod Laws
-pub mod Orderly
 pub mod Outputs
 pub mod Pending
 pub mod Receiving
@@ -13,9 +8,8 @@ pub mod Regions
 pub mod Rows
 pub mod Scripts
 pub mod Sending
-pub mod Shape
 pub mod Space
 pub mod State
 pub mod Step
 pub mod Tables
-pub mod Targets
+pub mod lemmas

@@ -31,6 +31,12 @@ is_ready Posted = false
 is_ready Moving = false
 is_ready Ready = true
 
+abbrev pub is_moving : Phase → Bool
+is_moving Queued = false
+is_moving Posted = false
+is_moving Moving = true
+is_moving Ready = false
+
 abbrev pub is_inward : Direction → Bool
 is_inward Outward = false
 is_inward Inward = true

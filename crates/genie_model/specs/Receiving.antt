@@ -10,8 +10,8 @@ use Rattle.genie_base.specs.declared.reply.Reply.TheVariants as reply
 use Rattle.genie_model.specs.declared.phase.Phase.TheVariants.{Moving, Ready}
 use Rattle.genie_model.specs.declared.phase.Phase.{Phase}
 use Rattle.genie_model.specs.State.{State, Transfer, Device, Datagram}
-use Rattle.genie_model.specs.declared.datagram.Fate.{Fate}
-use Rattle.genie_model.specs.declared.datagram.Fate.TheVariants.{Matched, Skipped, Gathering}
+use Rattle.genie_model.specs.declared.fate.Fate.{Fate}
+use Rattle.genie_model.specs.declared.fate.Fate.TheVariants.{Matched, Skipped, Gathering}
 use Rattle.genie_model.specs.Tables.{change, entry}
 use Rattle.genie_model.specs.Regions.{put}
 use Rattle.genie_model.specs.Pending.{is_early, is_numbered, pending, first_posted, arrived}
@@ -193,3 +193,7 @@ may_fail_at s d k (Some v) = not v.is_bad && not (is_busy s d v) && ((k == 0) ||
 -- a failure after k bytes
 abbrev pub may_fail_receiving : State → ℕ → ℕ → Bool
 may_fail_receiving s d k = may_fail_at s d k (entry s.devices d)
+
+-- the state with these bytes as a device's input
+abbrev pub with_input : State → ℕ → List ℕ → State
+with_input s d bytes = record s { devices = slice_set s.devices d (change_device (with_rest bytes) (entry s.devices d)) }

@@ -9,7 +9,7 @@ use Rattle.genie_base.specs.declared.reply.Note.TheVariants.{Whole}
 use Rattle.genie_base.specs.declared.reply.Reply.{Reply}
 use Rattle.genie_base.specs.declared.reply.Reply.TheVariants as reply
 use Rattle.genie_base.specs.declared.semantics.Semantics.{Semantics}
-use Rattle.genie_model.specs.Flat.{sent_of}
+use Rattle.genie_model.specs.Sending.{sent_of}
 use Rattle.genie_model.specs.State.{State, boot}
 use Rattle.genie_model.specs.Step.{step}
 

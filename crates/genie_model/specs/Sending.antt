@@ -93,3 +93,11 @@ may_fail_in s d k (Some t) = not (must_stage s d t) && ((k == 0) || nat_lt k (un
 
 abbrev pub may_fail_sending : State → ℕ → ℕ → Bool
 may_fail_sending s d k = may_fail_in s d k (first_queued s d)
+
+abbrev pub sent_by : Option Device → List ℕ
+sent_by None = []
+sent_by (Some d) = d.sent
+
+-- what a device has sent
+abbrev pub sent_of : State → ℕ → List ℕ
+sent_of s d = sent_by (entry s.devices d)

@@ -7,7 +7,7 @@ use Rattle.genie_base.specs.declared.region.RegionState.{RegionState}
 use Rattle.genie_base.specs.declared.reply.Note.{Note}
 use Rattle.genie_base.specs.declared.semantics.Class.{Class}
 use Rattle.genie_base.specs.declared.semantics.Direction.{Direction}
-use Rattle.genie_model.specs.declared.datagram.Fate.{Fate}
+use Rattle.genie_model.specs.declared.fate.Fate.{Fate}
 use Rattle.genie_model.specs.declared.phase.Phase.{Phase}
 
 pub record Region : Type 0 where

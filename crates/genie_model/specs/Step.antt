@@ -1,5 +1,5 @@
 -- One step of the flat machine, and whole runs.
-use Rattle.std.specs.Prelude.{◌≡◌, ℕ, ◌==◌, Bool, true, false, ◌&&◌, nat_lt, List, [], ◌∷◌, Option, None, Some, if◌then◌else◌}
+use Rattle.std.specs.Prelude.{◌≡◌, ℕ, ◌<◌, ◌^◌, ◌==◌, Bool, true, false, ◌&&◌, nat_lt, List, [], ◌∷◌, Option, None, Some, if◌then◌else◌}
 use Rattle.genie_base.specs.Events.{mark_of}
 use Rattle.genie_base.specs.Transfers.{class_of}
 use Rattle.genie_base.specs.declared.event.Event.{Event}
@@ -96,3 +96,7 @@ Follows s [] [] last = s ≡ last
 Follows s (e ∷ es) (r ∷ rs) last = ((step s e (mark_of r)).1 ≡ r) × Follows (step s e (mark_of r)).0 es rs last
 Follows s [] (r ∷ rs) last = ⊥
 Follows s (e ∷ es) [] last = ⊥
+
+-- fewer calls were accepted than there are numbers for transfers
+abbrev pub HasNumber : State → Type 0
+HasNumber s = s.next < 2 ^ 32

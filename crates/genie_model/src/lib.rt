@@ -1,28 +1,9 @@
-//! The flat machine: the specification in `specs/`, and a plain machine that computes it by copies of whole lists.
+//! The flat machine, defined in `specs/`: whole buffers as lists of bytes, and no frames.
 #![tactic(auto)]
 
-mod change;
-pub mod datagram;
-mod device;
-mod finish;
-pub mod flat;
-mod input;
+pub mod fate;
 pub mod laws;
-mod machine;
-mod orphan;
-mod output;
 pub mod phase;
-mod process;
-mod recv;
-mod refuse;
-mod region;
-mod send;
-mod space;
-mod step;
-mod table;
-#[cfg(test)]
-mod tests;
-mod transfer;
-mod transfers;
 
-pub use crate::flat::Flat;
+pub use crate::fate::Fate;
+pub use crate::phase::Phase;

@@ -6,7 +6,7 @@ use Rattle.genie_base.specs.declared.semantics.Direction.{Direction}
 use Rattle.std.proofs.lemmas.List.{length-append}
 use Rattle.genie_host.specs.Host.{HostView, HandleState, Mode, OnlyHandle, Opens}
 use Rattle.genie_base.specs.declared.semantics.Direction.TheVariants.{Inward, Outward}
-use Rattle.genie_model.specs.Flat.{sent_of}
+use Rattle.genie_model.specs.Sending.{sent_of}
 use Rattle.genie_model.specs.State.{State}
 use Rattle.genie_script.specs.declared.line.DeviceLine.{DeviceLine}
 use Rattle.genie_replay.specs.Files.{file_opening, openings_of, HandleRose, HasSent, HasSentFront, HoldsOfFile, HoldsOfInput, HoldsOfInputs, HoldsOfOutputs, IsFresh, IsFreshFor, IsFreshInput, IsFreshOutput, IsUnwritten, IsWriting, KeptUpTo, Opening, OpensAll, SameFaults, WritesFile, WritesFiles, last_handle}

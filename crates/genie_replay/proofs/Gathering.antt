@@ -6,7 +6,7 @@ use Rattle.std.specs.Io.KnownBytes.{Consumes, IsAtEnd}
 use Rattle.genie_base.specs.declared.semantics.Direction.TheVariants.{Inward, Outward}
 use Rattle.genie_host.specs.Host.{HostView, HandleState, OnlyHandle}
 use Rattle.genie_host.specs.OnlyHandle.{only_refl, only_trans}
-use Rattle.genie_model.specs.Flat.{with_input}
+use Rattle.genie_model.specs.Receiving.{with_input}
 use Rattle.genie_model.specs.State.{State}
 use Rattle.genie_script.specs.declared.line.DeviceLine.{DeviceLine}
 use Rattle.genie_replay.specs.declared.inputs.Unread.{Unread}

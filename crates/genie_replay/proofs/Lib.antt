@@ -1,10 +1,8 @@
-pub mod Alike
 pub mod Boots
 pub mod Exits
 pub mod Filing
 pub mod Gathering
 pub mod Opening
-pub mod Reached
 pub mod Reading
 pub mod Remaining
 pub mod Running

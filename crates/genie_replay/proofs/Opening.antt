@@ -4,7 +4,7 @@ use Rattle.std.specs.Prelude.{◌⊎◌, Option, Some, None, Ok, Err, flat_map}
 use Rattle.std.specs.Io.KnownBytes.{Appends, Keeps, prepend_known}
 use Rattle.genie_base.specs.declared.semantics.Direction.TheVariants.{Inward}
 use Rattle.genie_host.specs.Host.{HostView, HandleState, OnlyHandle, Opens, Reading, empty_told}
-use Rattle.genie_model.specs.Flat.{sent_of}
+use Rattle.genie_model.specs.Sending.{sent_of}
 use Rattle.genie_model.specs.State.{State, boot}
 use Rattle.genie_script.specs.Judge.{Boot, Numbered, Part, Refused, Booted, boot_part, events_from}
 use Rattle.genie_script.specs.Texts.{lines_of}

@@ -4,7 +4,7 @@ use Rattle.std.specs.Prelude.{Option, Some, None, Ok, Err, IfSome, IsSome}
 use Rattle.std.specs.Io.KnownBytes.{Appends}
 use Rattle.genie_base.specs.Causes.{Rose}
 use Rattle.genie_host.specs.Host.{HostView, HandleState}
-use Rattle.genie_model.specs.Flat.{sent_of}
+use Rattle.genie_model.specs.Sending.{sent_of}
 use Rattle.genie_model.specs.State.{State}
 use Rattle.genie_script.specs.Judge.{Numbered, events_from}
 use Rattle.genie_script.specs.Spelling.{reply_text}

@@ -5,7 +5,7 @@ use Rattle.std.proofs.lemmas.Bool.Decides.{nat_tests}
 use Rattle.std.specs.Io.KnownBytes.{Keeps}
 use Rattle.genie_base.specs.Configs.{Config, DeviceConfig}
 use Rattle.genie_host.specs.Host.{HostView}
-use Rattle.genie_model.specs.Flat.{with_input}
+use Rattle.genie_model.specs.Receiving.{with_input}
 use Rattle.genie_model.specs.Receiving.{with_rest}
 use Rattle.genie_model.specs.Sending.{change_device}
 use Rattle.genie_model.specs.State.{State, boot, boot_device, boot_devices}

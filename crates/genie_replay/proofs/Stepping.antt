@@ -9,10 +9,10 @@ use Rattle.genie_base.specs.declared.event.Event.{Event}
 use Rattle.genie_base.specs.declared.reply.Mark.TheVariants.{NoFault}
 use Rattle.genie_base.specs.declared.reply.Reply.{Reply}
 use Rattle.genie_host.specs.Host.{HostView, HandleState, OnlyHandle}
-use Rattle.genie_model.specs.Laws.{Grows, ShowNoFault}
+use Rattle.genie_orderly.specs.Steps.{Grows, ShowNoFault}
 use Rattle.genie_model.specs.State.{State}
 use Rattle.genie_model.specs.Step.{Follows, step}
-use Rattle.genie_model.proofs.Growing.{steps_grow, plain_steps_show_no_fault}
+use Rattle.genie_orderly.specs.lemmas.Growth.{steps_grow, plain_steps_show_no_fault}
 use Rattle.genie_script.specs.Judge.{Numbered}
 use Rattle.genie_script.specs.Spelling.{reply_text}
 use Rattle.genie_script.specs.declared.judge.Judged.{Judged}

@@ -5,7 +5,7 @@ use Rattle.genie_base.specs.Causes.{Rose}
 use Rattle.genie_base.specs.declared.semantics.Direction.{Direction}
 use Rattle.genie_base.specs.declared.semantics.Direction.TheVariants.{Inward, Outward}
 use Rattle.genie_host.specs.Host.{HostView, HandleState, Reading, Writing, empty_told}
-use Rattle.genie_model.specs.Flat.{sent_of}
+use Rattle.genie_model.specs.Sending.{sent_of}
 use Rattle.genie_model.specs.State.{State}
 use Rattle.genie_script.specs.declared.line.DeviceLine.{DeviceLine}
 use Rattle.genie_replay.specs.Write.{AppendsFront, WritesAll}

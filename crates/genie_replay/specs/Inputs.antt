@@ -3,7 +3,7 @@ use Rattle.std.specs.Prelude.{◌≡◌, ◌≢◌, ℕ, ◌+◌, ◌==◌, List
 use Rattle.genie_base.specs.Causes.{Rose}
 use Rattle.genie_base.specs.Configs.{Config}
 use Rattle.genie_host.specs.Host.{HostView, OnlyHandle}
-use Rattle.genie_model.specs.Flat.{with_input}
+use Rattle.genie_model.specs.Receiving.{with_input}
 use Rattle.genie_model.specs.State.{State, boot}
 use Rattle.genie_script.specs.declared.line.DeviceLine.{DeviceLine}
 use Rattle.genie_replay.specs.declared.inputs.Unread.{Unread}

@@ -1,4 +1,3 @@
-pub mod Alike
 pub mod Booted
 pub mod Booting
 pub mod Files
@@ -6,7 +5,6 @@ pub mod Inputs
 pub mod Lines
 pub mod Outcome
 pub mod Plays
-pub mod Reached
 pub mod Serving
 pub mod Statuses
 pub mod Write

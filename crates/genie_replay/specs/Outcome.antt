@@ -8,8 +8,8 @@ use Rattle.genie_base.specs.declared.reply.Reply.{Reply}
 use Rattle.genie_base.specs.declared.semantics.Direction.{Direction}
 use Rattle.genie_base.specs.declared.semantics.Direction.TheVariants.{Inward}
 use Rattle.genie_host.specs.Host.{HostView, empty_told}
-use Rattle.genie_model.specs.Flat.{sent_of}
-use Rattle.genie_model.specs.Laws.{ShowNoFault}
+use Rattle.genie_model.specs.Sending.{sent_of}
+use Rattle.genie_orderly.specs.Steps.{ShowNoFault}
 use Rattle.genie_model.specs.State.{State}
 use Rattle.genie_model.specs.Step.{Follows}
 use Rattle.genie_script.specs.Judge.{Boot, Refused, Booted, Numbered, boot_part, events_from, ending_from}

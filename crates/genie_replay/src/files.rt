@@ -4,8 +4,8 @@ ghost use Rattle.genie_base.specs.declared.semantics.Direction.TheVariants.{Inwa
 ghost use Rattle.genie_replay.specs.Files.{file_opening, openings_of, HoldsOfFile, HoldsOfInput, HoldsOfInputs, HoldsOfOutputs, OpensAll, IsFresh, IsFreshFor, IsUnwritten, Opening, IsWriting, WritesFile, WritesFiles};
 
 use crate::write::write_all;
+use genie_flat::Flat;
 use genie_host::{Failed, Host, OpenRefused};
-use genie_model::Flat;
 use genie_script::{DeviceLine, Name};
 
 // Opens an input, if there is one.

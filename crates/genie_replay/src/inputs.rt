@@ -5,8 +5,8 @@ ghost use Rattle.genie_replay.specs.Files.{HoldsOfInput, HoldsOfInputs, IsReadin
 ghost use Rattle.genie_replay.specs.Inputs.{CountsFor, ReadsInput, ReadsInputs, Tells};
 
 use crate::files::file_count;
+use genie_flat::Flat;
 use genie_host::Host;
-use genie_model::Flat;
 use genie_script::DeviceLine;
 use std::alloc::Global;
 

@@ -4,7 +4,6 @@
 mod booting;
 mod files;
 mod inputs;
-pub mod laws;
 mod play;
 pub mod replay;
 pub mod script;

@@ -7,8 +7,8 @@ ghost use Rattle.genie_replay.specs.Plays.{IsFirst, Leaves, PlaysFrom};
 use crate::script::{LineStep, SCRIPT, Script};
 use crate::serving::{Stop, take_line};
 use crate::status::Status;
+use genie_flat::Flat;
 use genie_host::Host;
-use genie_model::Flat;
 use genie_script::{LineBuffer, MOST_LINES};
 
 /// Steps the events of the lines that are left, and writes each reply before it reads the next line. The first of these

@@ -15,8 +15,8 @@ use crate::script::{LineStep, SCRIPT, Script};
 use crate::serving::REPLIES;
 use crate::status::Status;
 use crate::write::write_all;
+use genie_flat::Flat;
 use genie_host::{Host, OpenRefused};
-use genie_model::Flat;
 use genie_script::{BootPart, DeviceLine, LineBuffer};
 use std::alloc::Global;
 

@@ -1,15 +1,15 @@
 //! Stepping one event, and one line.
 ghost use Rattle.std.specs.Prelude.{◌<◌, ◌^◌, IsTrue, IsSome, IfSome};
 ghost use Rattle.genie_base.specs.Events.{is_whole};
-ghost use Rattle.genie_model.specs.Flat.{HasNumber};
+ghost use Rattle.genie_model.specs.Step.{HasNumber};
 ghost use Rattle.genie_script.specs.Judge.{event_said};
 ghost use Rattle.genie_script.specs.Lines.{line_of};
 ghost use Rattle.genie_replay.specs.Serving.{ServesFrom, TakesLineFrom};
 
 use crate::write::write_all;
 use genie_base::{Event, Mark};
+use genie_flat::Flat;
 use genie_host::Host;
-use genie_model::Flat;
 use genie_script::{Ending, Judged, LineBuffer, judge_event, put_reply};
 
 /// The handle of the replies.

@@ -4,8 +4,9 @@ ghost use Rattle.std.specs.Prelude.{◌≡◌, ◌<◌, ◌≤◌, ◌+◌, [], 
 use crate::marked::{MarkedRow, failures};
 use crate::rows::{Row, accesses, devices, inputs, limits, modes, moves, outputs};
 use genie_base::{Config, DeviceConfig, Kind, Mark, NoMemory};
+use genie_flat::Flat;
 use genie_host::{Host, MemoryHost};
-use genie_model::{Flat, laws};
+use genie_orderly::laws;
 use genie_replay::{Status, run};
 use genie_script::{Judged, LineBuffer, judge_event, put_reply};
 use itoa::Buffer;

@@ -9,7 +9,7 @@ use crate::boot_part::BootPart;
 use crate::line::{DeviceLine, Line};
 use crate::parse::parse_line;
 use crate::words::cut;
-use genie_base::{Event, PageSize};
+use genie_base::{Event, PageBuffer, PageSize};
 
 /// How many lines a script may have.
 pub const MOST_LINES: u64 = 1_000_000;
@@ -78,13 +78,13 @@ fn bounded_boot(before: u64, boot: BootLine) -> Judged<BootLine>
 }
 
 /// Judges a line before the boot line, where so many lines stand before it.
-pub fn judge_first(before: u64, text: &[u8]) -> Judged<BootLine>
+pub fn judge_first(before: u64, text: &[u8], into: &mut PageBuffer) -> Judged<BootLine>
     requires { before < 2 ^ 32 }
     ensures said { result ≡ first_said before (line_of text.now) }
     // The numbers of a boot line that was taken keep their limits.
     ensures fits { IfTaken result (λ b. fits_boot b ≡ true) }
 {
-    match parse_line(text) {
+    match parse_line(text, into) {
         Ok(Line::Blank) => Judged::Passed,
         Ok(
             Line::Boot {
@@ -143,28 +143,34 @@ fn bounded_device(
 }
 
 /// Judges a line among the device lines of the script of this name, by the grammar and then by its bounds.
-pub fn judge_device(before: u64, text: &[u8], script: &[u8], part: &BootPart) -> Judged<DeviceLine>
+pub fn judge_device(
+    before: u64,
+    text: &[u8],
+    script: &[u8],
+    part: &BootPart,
+    into: &mut PageBuffer,
+) -> Judged<DeviceLine>
     requires { before < 2 ^ 32 }
     ensures said { result ≡ device_said script.now part.now before (line_of text.now) }
     // A device that was taken keeps its bounds.
     ensures place { IfTaken result (λ d. has_place part.now.config d ≡ true) }
     ensures limits { IfTaken result (λ d. keeps_limits part.now.config d ≡ true) }
 {
-    match parse_line(text) {
+    match parse_line(text, into) {
         Ok(Line::Blank) => Judged::Passed,
         Ok(Line::Device(device)) => bounded_device(before, script, part, device),
         _ => Judged::Ends(Ending::BadLine(before + 1)),
     }
 }
 
-/// Judges a line behind the boot part.
-pub fn judge_event(before: u64, text: &[u8]) -> Judged<Event>
+/// Judges a line behind the boot part. The bytes of a `write` are put into the buffer, and the event borrows them.
+pub fn judge_event<'a>(before: u64, text: &[u8], into: &'a mut PageBuffer) -> Judged<Event<'a>>
     requires { before < 2 ^ 32 }
     ensures said { result ≡ event_said before (line_of text.now) }
     // An input has an address exactly where the application allocates its buffer, and a write has a byte.
     ensures whole { IfTaken result (λ e. IsTrue (is_whole e)) }
 {
-    match parse_line(text) {
+    match parse_line(text, into) {
         Ok(Line::Blank) => Judged::Passed,
         Ok(Line::Event(event)) => Judged::Taken(event),
         _ => Judged::Ends(Ending::BadLine(before + 1)),

@@ -19,7 +19,7 @@ pub struct DeviceLine {
 
 /// One line of a script.
 #[derive(Drop)]
-pub enum Line {
+pub enum Line<'a> {
     /// No bytes, or a comment.
     Blank,
     Boot {
@@ -30,7 +30,7 @@ pub enum Line {
         rcout: u32,
     },
     Device(DeviceLine),
-    Event(Event),
+    Event(Event<'a>),
 }
 
 /// A text that isn't a script line.

@@ -10,10 +10,10 @@ use crate::line::{BadLine, DeviceLine, Line};
 use crate::name::next_file;
 use crate::numbers::{last_number, last_three, last_two, next_number};
 use crate::words::{Words, next_word};
-use genie_base::Event;
+use genie_base::{Event, PageBuffer};
 
 #[tactic(auto, unfolding(crate::specs::Lines::boot_of))]
-fn boot(words: Words) -> Option<Line>
+fn boot<'a>(words: Words) -> Option<Line<'a>>
     ensures { result ≡ boot_of (left words.entry) }
 {
     let (page, rest) = next_number(words)?;
@@ -48,7 +48,7 @@ fn device(words: Words) -> Option<DeviceLine>
 }
 
 #[tactic(auto, unfolding(crate::specs::Lines::output_of))]
-fn output(words: Words) -> Option<Event>
+fn output<'a>(words: Words) -> Option<Event<'a>>
     ensures { result ≡ output_of (left words.entry) }
 {
     let (route, rest) = next_route(words)?;
@@ -72,7 +72,7 @@ fn output(words: Words) -> Option<Event>
 }
 
 #[tactic(auto, unfolding(crate::specs::Lines::input_of))]
-fn input(words: Words) -> Option<Event>
+fn input<'a>(words: Words) -> Option<Event<'a>>
     ensures { result ≡ input_of (left words.entry) }
 {
     let (route, rest) = next_route(words)?;
@@ -96,7 +96,7 @@ fn input(words: Words) -> Option<Event>
 }
 
 #[tactic(auto, unfolding(crate::specs::Lines::protect_of))]
-fn protect(words: Words) -> Option<Event>
+fn protect<'a>(words: Words) -> Option<Event<'a>>
     ensures { result ≡ protect_of (left words.entry) }
 {
     let (pid, rest) = next_number(words)?;
@@ -110,17 +110,17 @@ fn protect(words: Words) -> Option<Event>
 }
 
 #[tactic(auto, unfolding(crate::specs::Lines::write_of))]
-fn write(words: Words) -> Option<Event>
+fn write<'a>(words: Words, into: &'a mut PageBuffer) -> Option<Event<'a>>
     ensures { result ≡ write_of (left words.entry) }
 {
     let (pid, rest) = next_number(words)?;
     let (addr, rest) = next_number(rest)?;
-    let bytes = last_bytes(rest)?;
+    let bytes = last_bytes(rest, into)?;
     Some(Event::Write { pid, addr, bytes })
 }
 
 #[tactic(auto, unfolding(crate::specs::Lines::event_of))]
-fn event(keyword: Keyword, words: Words) -> Option<Event>
+fn event<'a>(keyword: Keyword, words: Words, into: &'a mut PageBuffer) -> Option<Event<'a>>
     ensures { result ≡ event_of keyword (left words.entry) }
 {
     match keyword {
@@ -133,7 +133,7 @@ fn event(keyword: Keyword, words: Words) -> Option<Event>
         Keyword::Unmap => last_two(words).map(|(pid, page)| Event::Unmap { pid, page }),
         Keyword::Protect => protect(words),
         Keyword::Read => last_three(words).map(|(pid, addr, len)| Event::Read { pid, addr, len }),
-        Keyword::Write => write(words),
+        Keyword::Write => write(words, into),
         Keyword::Output => output(words),
         Keyword::Input => input(words),
         Keyword::Send => last_two(words).map(|(dev, len)| Event::Send { dev, len }),
@@ -145,34 +145,35 @@ fn event(keyword: Keyword, words: Words) -> Option<Event>
 }
 
 #[tactic(auto, unfolding(crate::specs::Lines::fields_of))]
-fn fields(keyword: Keyword, words: Words) -> Option<Line>
+fn fields<'a>(keyword: Keyword, words: Words, into: &'a mut PageBuffer) -> Option<Line<'a>>
     ensures { result ≡ fields_of keyword (left words.entry) }
 {
     match keyword {
         Keyword::Boot => boot(words),
-        Keyword::Device => device(words).map(Line::Device),
-        _ => event(keyword, words).map(Line::Event),
+        Keyword::Device => Some(Line::Device(device(words)?)),
+        _ => Some(Line::Event(event(keyword, words, into)?)),
     }
 }
 
 #[tactic(auto, unfolding(crate::specs::Lines::line_of))]
-fn read(line: &[u8]) -> Option<Line>
+fn read<'a>(line: &[u8], into: &'a mut PageBuffer) -> Option<Line<'a>>
     ensures { result ≡ line_of line.now }
 {
     if matches!(line, [] | [b'#', ..]) {
         return Some(Line::Blank);
     }
     let (word, rest) = next_word(Some(line))?;
-    fields(Keyword::find(word)?, rest)
+    fields(Keyword::find(word)?, rest, into)
 }
 
 /// Reads a line, given without its line end. `BadLine` comes exactly where the text isn't a line of the script's
-/// grammar. The time is linear in the number of bytes.
-pub fn parse_line(line: &[u8]) -> Result<Line, BadLine>
+/// grammar. The bytes of a `write` are put into the buffer, and the line borrows them. The time is linear in the number
+/// of bytes.
+pub fn parse_line<'a>(line: &[u8], into: &'a mut PageBuffer) -> Result<Line<'a>, BadLine>
     ensures line { IfOk result (λ l. line_of line.now ≡ Some l) }
     ensures bad { OnErr result (line_of line.now ≡ None) }
     // An input has an address exactly where the application allocates its buffer, and a write has a byte.
     ensures whole { IfOk result (λ l. is_whole_line l ≡ true) }
 {
-    read(line).ok_or(BadLine)
+    read(line, into).ok_or(BadLine)
 }

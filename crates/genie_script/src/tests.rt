@@ -1,7 +1,7 @@
 ghost use Rattle.std.specs.Prelude.{◌≤◌, length};
 
 use super::*;
-use genie_base::{Note, PageBytes, Refusal, Reply};
+use genie_base::{Note, PageBuffer, Refusal, Reply};
 use std::process::Abort;
 use std::test::*;
 
@@ -128,11 +128,12 @@ unknown 0
 ; comment";
 
 fn is_line(line: &[u8]) -> bool {
-    parse_line(line).is_ok()
+    parse_line(line, &mut PageBuffer::new()).is_ok()
 }
 
 fn is_spelled(line: &[u8], spelling: &[u8]) -> bool {
-    let Ok(line) = parse_line(line) else {
+    let mut bytes = PageBuffer::new();
+    let Ok(line) = parse_line(line, &mut bytes) else {
         return false;
     };
     let mut out = LineBuffer::new();
@@ -194,8 +195,8 @@ fn longest_lines(rt: HostRuntime) {
     lines_have_one_spelling();
 }
 
-fn page() -> PageBytes {
-    let mut bytes = PageBytes::new();
+fn page() -> PageBuffer {
+    let mut bytes = PageBuffer::new();
     bytes.push(0x0a);
     bytes.push(0xff);
     bytes
@@ -204,7 +205,7 @@ fn page() -> PageBytes {
 #[test]
 fn replies(rt: HostRuntime) {
     said(&rt, Reply::Okay, b"ok\n");
-    said(&rt, Reply::Bytes(page()), b"data 0aff\n");
+    said(&rt, Reply::Bytes(page().lend()), b"data 0aff\n");
     said(&rt, Reply::At { addr: 8192 }, b"at 8192\n");
     said(&rt, Reply::Id { id: 1 }, b"id 1\n");
     said(&rt, Reply::Sent { n: 40 }, b"sent 40\n");

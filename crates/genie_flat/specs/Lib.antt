@@ -1,0 +1,4 @@
+pub mod Changes
+pub mod Flat
+pub mod Shape
+pub mod Targets

@@ -1,0 +1,2 @@
+-- The ends of transfers.
+pub mod Moves

@@ -1,0 +1,8 @@
+-- What devices send.
+pub mod Events
+pub mod Ranges
+pub mod ReceiveSteps
+pub mod Records
+pub mod SendSteps
+pub mod Sent
+pub mod Turns

@@ -1,0 +1,3 @@
+-- Whole runs.
+pub mod Numbers
+pub mod Refusals

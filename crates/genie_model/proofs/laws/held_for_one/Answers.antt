@@ -1,6 +1,0 @@
--- Each transfer names what it may.
-use Rattle.genie_model.proofs.laws.held_for_one.Goals as goal
-use Rattle.genie_model.proofs.Holding.{held_for_one}
-
-pub returns : goal.returns
-returns c = held_for_one

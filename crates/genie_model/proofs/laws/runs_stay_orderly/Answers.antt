@@ -1,6 +1,0 @@
--- Every state that a run reaches is orderly.
-use Rattle.genie_model.proofs.Orderly.{runs_stay_orderly}
-use Rattle.genie_model.proofs.laws.runs_stay_orderly.Goals as goal
-
-pub returns : goal.returns
-returns c = runs_stay_orderly

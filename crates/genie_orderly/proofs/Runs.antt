@@ -1,0 +1,3 @@
+-- Every event, and whole runs.
+pub mod Events
+pub mod Orderly

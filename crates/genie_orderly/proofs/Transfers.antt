@@ -1,0 +1,3 @@
+-- The pending transfers.
+pub mod Frames
+pub mod Numbers

@@ -1,0 +1,192 @@
+-- What is so in every state that a run reaches.
+use Rattle.std.specs.Prelude.{◌≡◌, ◌≢◌, ◌⊎◌, ℕ, ◌+◌, ◌*◌, ◌<◌, ◌≤◌, Bool, true, false, IsTrue, ◌&&◌, ◌==◌, List, ◌++◌, length, map, flat_map, count_by, All, AllPairs, Option, None, Some, IfSome, ⊤, is_some}
+use Rattle.std.specs.List.{list_any}
+use Rattle.std.specs.Option.{option_map}
+use Rattle.genie_base.specs.Configs.{DeviceConfig, Fits}
+use Rattle.genie_base.specs.Regions.{AreInOrder}
+use Rattle.genie_base.specs.declared.config.Kind.{Kind}
+use Rattle.genie_base.specs.declared.region.Area.{Area}
+use Rattle.genie_base.specs.declared.region.Area.TheVariants.{App, Sys}
+use Rattle.genie_base.specs.declared.region.RegionState.{RegionState}
+use Rattle.genie_base.specs.declared.region.RegionState.TheVariants.{Live, Out, In, Held}
+use Rattle.genie_base.specs.declared.semantics.Class.{Class}
+use Rattle.genie_base.specs.declared.semantics.Class.TheVariants.{Copy, Share, Move, WeakMove}
+use Rattle.genie_base.specs.declared.semantics.Direction.{Direction}
+use Rattle.genie_base.specs.declared.semantics.Direction.TheVariants.{Outward, Inward}
+use Rattle.genie_model.specs.declared.fate.Fate.{Fate}
+use Rattle.genie_model.specs.declared.fate.Fate.TheVariants.{Matched, Skipped, Gathering}
+use Rattle.genie_model.specs.State.{State, Region, Orphan, Process, Transfer, Device, Datagram}
+use Rattle.genie_model.specs.Tables.{entry}
+use Rattle.genie_model.specs.Regions.{extent_of, regions_of, regions_at, is_region, region_numbered, orphan_numbered, committed}
+use Rattle.genie_model.specs.Pending.{names, wired, is_posted, is_inward}
+use Rattle.genie_model.specs.Space.{is_move, is_named, tidy}
+use Rattle.genie_model.specs.Tables.{entry}
+use Rattle.genie_model.specs.Refusing.{frames_to_wire}
+
+-- the application's area ends at page 512, and the system's follows it up to page 1,024
+abbrev pub IsIn : Area → ℕ → ℕ → Type 0
+IsIn App start pages = start + pages ≤ 512
+IsIn Sys start pages = (512 ≤ start) × (start + pages ≤ 1024)
+
+-- a region has 1 to 64 pages, which lie in its area, and a byte for each place
+pub record IsRegion (page : ℕ) (r : Region) : Type 0 where
+  pub some : 1 ≤ r.pages
+  pub most : r.pages ≤ 64
+  pub area : IsIn r.area r.start r.pages
+  pub bytes : length r.bytes ≡ r.pages * page
+
+-- at most 32 regions, in the order of their start pages, none overlapping another
+pub record AreApart (page : ℕ) (regions : List Region) : Type 0 where
+  pub few : length regions ≤ 32
+  pub order : AreInOrder extent_of regions
+  pub each : All (IsRegion page) regions
+
+-- so are the regions of each process
+abbrev pub RegionsAreApart : State → Type 0
+RegionsAreApart s = All (λ (p : Option Process). AreApart s.config.page (regions_of p)) s.processes
+
+-- the pending transfers need no more frames than there are for them
+abbrev pub WiredIsBounded : State → Type 0
+WiredIsBounded s = wired s ≤ frames_to_wire s
+
+-- the pages of all regions fit the store
+abbrev pub CommittedIsBounded : State → Type 0
+CommittedIsBounded s = committed s ≤ s.config.slots
+
+-- at most 64 transfers are pending, in the order of their numbers, all of which are below the next one
+pub record NumbersRise (s : State) : Type 0 where
+  pub few : length s.transfers ≤ 64
+  pub order : AllPairs (λ (t u : Transfer). t.number < u.number) s.transfers
+  pub below : All (λ (t : Transfer). t.number < s.next) s.transfers
+
+abbrev pub region_numbers : Option Process → List ℕ
+region_numbers p = map (λ (r : Region). r.number) (regions_of p)
+
+abbrev pub orphan_numbers : List Orphan → List ℕ
+orphan_numbers orphans = map (λ (o : Orphan). o.number) orphans
+
+-- the numbers of all regions and all orphans
+abbrev pub numbers : State → List ℕ
+numbers s = flat_map region_numbers s.processes ++ orphan_numbers s.orphans
+
+-- no two of them have the same
+abbrev pub NumbersDiffer : State → Type 0
+NumbersDiffer s = AllPairs (λ (a b : ℕ). a ≢ b) (numbers s)
+
+-- a pending weak transfer names each orphan
+abbrev pub OrphansAreNamed : State → Type 0
+OrphansAreNamed s = All (λ (o : Orphan). IsTrue (is_named s.transfers o)) s.orphans
+
+-- orphans stand in the order of their numbers
+abbrev pub OrphansRise : State → Type 0
+OrphansRise s = AllPairs (λ (o p : Orphan). o.number < p.number) s.orphans
+
+-- the places of each orphan rise, none of them twice
+abbrev pub OrphanPlacesRise : State → Type 0
+OrphanPlacesRise s = All (λ (o : Orphan). AllPairs (λ (a b : ℕ × ℕ). a.0 < b.0) o.bytes) s.orphans
+
+-- nothing is left of orphans but what pending weak transfers name and cover
+abbrev pub OrphansAreTidy : State → Type 0
+OrphansAreTidy s = tidy s ≡ s
+
+-- the orphan has a byte at place x
+abbrev pub has_place : ℕ → Orphan → Bool
+has_place x o = list_any (λ (e : ℕ × ℕ). e.0 == x) o.bytes
+
+abbrev pub LiesInRegion : Transfer → Option Region → Type 0
+LiesInRegion t None = ⊥
+LiesInRegion t (Some r) = t.offset + t.len ≤ length r.bytes
+
+abbrev pub LiesInOrphan : Transfer → Option Orphan → Type 0
+LiesInOrphan t None = ⊥
+LiesInOrphan t (Some o) = (x : ℕ) → t.offset ≤ x → x < t.offset + t.len → IsTrue (has_place x o)
+
+-- the range of a transfer lies in the region or the orphan that it names
+abbrev pub Lies : State → Transfer → Option ℕ → Type 0
+Lies s t None = ⊤
+Lies s t (Some k) = LiesInRegion t (region_numbered s k) ⊎ LiesInOrphan t (orphan_numbered s k)
+
+abbrev pub RangesLie : State → Type 0
+RangesLie s = All (λ (t : Transfer). Lies s t t.region) s.transfers
+
+abbrev pub is_held : RegionState → Bool
+is_held Live = false
+is_held Out = false
+is_held In = false
+is_held Held = true
+
+-- this process has region k, and holds it for a move input
+abbrev pub holds : State → Option ℕ → ℕ → Bool
+holds s None k = false
+holds s (Some p) k = list_any (λ (r : Region). is_region k r && is_held r.state) (regions_at s p)
+
+-- a weak transfer names a region or an orphan, and a strong one nothing; but a move input names the region that its
+-- owner holds, until the owner is gone
+abbrev pub MayName : State → Class → Direction → Option ℕ → Option ℕ → Type 0
+MayName s Copy direction owner region = region ≡ None
+MayName s Share direction owner region = IsTrue (is_some region)
+MayName s Move Outward owner region = region ≡ None
+MayName s Move Inward owner None = owner ≡ None
+MayName s Move Inward owner (Some k) = IsTrue (holds s owner k)
+MayName s WeakMove direction owner region = IsTrue (is_some region)
+
+abbrev pub moves_into : ℕ → Transfer → Bool
+moves_into k t = is_move t.class && names k t
+
+-- each transfer names what it may, and what a move input names no other one does
+pub record HeldForOne (s : State) : Type 0 where
+  pub held : All (λ (t : Transfer). MayName s t.class t.direction t.owner t.region) s.transfers
+  pub one : (k : ℕ) → IsTrue (list_any (moves_into k) s.transfers) → count_by (names k) s.transfers ≤ 1
+
+-- only inputs are posted
+abbrev pub PostedAreInputs : State → Type 0
+PostedAreInputs s = All (λ (t : Transfer). IsTrue (is_posted t.phase) → IsTrue (is_inward t.direction)) s.transfers
+
+-- the number was given to a call, and where that is pending it is an input of device d
+abbrev pub IsInput : State → ℕ → ℕ → Type 0
+IsInput s d k = (k < s.next) × All (λ (t : Transfer). t.number ≡ k → IsTrue (is_inward t.direction) × (t.device ≡ d)) s.transfers
+
+abbrev pub GoesToInput : State → ℕ → Fate → Type 0
+GoesToInput s d Skipped = ⊤
+GoesToInput s d (Matched k) = IsInput s d k
+GoesToInput s d Gathering = ⊤
+
+-- the datagram is under way at device d: some of its payload is still to come, and if it was matched, then to an input of
+-- that device
+pub record IsUnderWay (s : State) (d : ℕ) (g : Datagram) : Type 0 where
+  pub left : g.moved < g.len
+  pub input : GoesToInput s d g.fate
+
+abbrev pub ReceivesForInput : State → ℕ → Option Device → Type 0
+ReceivesForInput s d v = IfSome v (λ (w : Device). IfSome w.present (IsUnderWay s d))
+
+-- so is the datagram that each device is receiving, if it is receiving one
+abbrev pub MatchedAreInputs : State → Type 0
+MatchedAreInputs s = (d : ℕ) → ReceivesForInput s d (entry s.devices d)
+
+-- the kind and the depth of a device, where one is there
+abbrev pub shape_of : Option Device → Option (Kind × ℕ)
+shape_of v = option_map (λ (d : Device). (d.kind, d.depth)) v
+
+-- a device is there exactly where the configuration has one at its place, with the kind and the depth that it says
+abbrev pub DevicesAreConfigs : State → Type 0
+DevicesAreConfigs s = (d : ℕ) → shape_of (entry s.devices d) ≡ option_map (λ (c : DeviceConfig). (c.kind, c.depth)) (entry s.config.devices d)
+
+-- all of this
+pub record IsOrderly (s : State) : Type 0 where
+  pub config : Fits s.config
+  pub places : length s.processes ≡ 16
+  pub devices : DevicesAreConfigs s
+  pub regions : RegionsAreApart s
+  pub wired : WiredIsBounded s
+  pub committed : CommittedIsBounded s
+  pub transfers : NumbersRise s
+  pub numbers : NumbersDiffer s
+  pub orphans : OrphansAreNamed s
+  pub rise : OrphansRise s
+  pub order : OrphanPlacesRise s
+  pub tidied : OrphansAreTidy s
+  pub ranges : RangesLie s
+  pub holds : HeldForOne s
+  pub posted : PostedAreInputs s
+  pub matched : MatchedAreInputs s

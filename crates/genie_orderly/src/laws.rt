@@ -1,0 +1,128 @@
+//! What every step keeps, and what is so of every state that a run reaches.
+ghost use Rattle.std.specs.Prelude.{◌≡◌, length};
+ghost use Rattle.genie_orderly.specs.Orderly.{RegionsAreApart, WiredIsBounded, CommittedIsBounded, NumbersRise, NumbersDiffer, OrphansAreNamed, OrphansRise, OrphanPlacesRise, OrphansAreTidy, RangesLie, HeldForOne, PostedAreInputs, MatchedAreInputs, DevicesAreConfigs, IsOrderly};
+ghost use Rattle.genie_orderly.specs.Steps.{Stays, StepsGrow, StepsKeepConfig, PlainStepsShowNoFault, BootIsOrderly, RunsStayOrderly};
+
+/// In a step devices keep their kinds and depths, what they have sent stays sent, and the number of the next transfer stays
+/// or rises by one.
+#[tactic(auto, using(crate::specs::lemmas::Growth::steps_grow))]
+pub fn steps_grow()
+    ensures { StepsGrow }
+{}
+
+/// The reply to a step in which nothing fails shows no fault.
+#[tactic(auto, using(crate::specs::lemmas::Growth::plain_steps_show_no_fault))]
+pub fn plain_steps_show_no_fault()
+    ensures { PlainStepsShowNoFault }
+{}
+
+/// A step keeps the configuration.
+#[tactic(auto, using(crate::specs::lemmas::KeptCalls::steps_keep_config))]
+pub fn steps_keep_config()
+    ensures { StepsKeepConfig }
+{}
+
+/// A step leaves 16 places for processes.
+#[tactic(auto, using(crate::proofs::Regions::Spaces::places_stay))]
+pub fn places_stay()
+    ensures { Stays (λ s. length s.processes ≡ 16) }
+{}
+
+/// A device is there exactly where the configuration has one, with its kind and depth.
+#[tactic(auto, using(crate::specs::lemmas::Growth::devices_are_configs))]
+pub fn devices_are_configs()
+    ensures { Stays DevicesAreConfigs }
+{}
+
+/// Regions of one process never overlap and stay in the order of their start pages.
+pub fn regions_stay_apart()
+    ensures { Stays RegionsAreApart }
+{}
+
+/// The pending transfers need no more frames than there are for them.
+#[tactic(auto, using(crate::proofs::Transfers::Frames::wired_is_bounded))]
+pub fn wired_is_bounded()
+    ensures { Stays WiredIsBounded }
+{}
+
+/// The pages of all regions fit the store.
+#[tactic(auto, using(crate::proofs::Regions::Spaces::committed_is_bounded))]
+pub fn committed_is_bounded()
+    ensures { Stays CommittedIsBounded }
+{}
+
+/// At most 64 transfers are pending, in the order of their numbers, all of which are below the next one.
+pub fn numbers_rise()
+    ensures { Stays NumbersRise }
+{}
+
+/// No two regions or orphans have the same number.
+#[tactic(auto, using(crate::proofs::Regions::Distinct::numbers_differ))]
+pub fn numbers_differ()
+    ensures { Stays NumbersDiffer }
+{}
+
+/// A pending weak transfer names each orphan.
+#[tactic(auto, using(crate::proofs::Orphans::Named::orphans_are_named))]
+pub fn orphans_are_named()
+    ensures { Stays OrphansAreNamed }
+{}
+
+/// Orphans stand in the order of their numbers.
+#[tactic(auto, using(crate::proofs::Orphans::Rising::orphans_rise))]
+pub fn orphans_rise()
+    ensures { Stays OrphansRise }
+{}
+
+/// The places of each orphan rise, none of them twice.
+#[tactic(auto, using(crate::proofs::Orphans::Rising::orphan_places_rise))]
+pub fn orphan_places_rise()
+    ensures { Stays OrphanPlacesRise }
+{}
+
+/// Nothing is left of orphans but what pending weak transfers name and cover.
+#[tactic(auto, using(crate::proofs::Orphans::Tidy::orphans_tidy))]
+pub fn orphans_tidy()
+    ensures { Stays OrphansAreTidy }
+{}
+
+/// Every named range lies in the region or the orphan that it names.
+#[tactic(auto, using(crate::proofs::Names::Steps::ranges_lie))]
+pub fn ranges_lie()
+    ensures { Stays RangesLie }
+{}
+
+/// A weak transfer names a region or an orphan, and a strong one nothing; but a move input names the region that its owner
+/// holds, which no other transfer names, until the owner is gone.
+pub fn held_for_one()
+    ensures { Stays HeldForOne }
+{}
+
+/// Only inputs are posted.
+#[tactic(auto, using(crate::proofs::Inputs::Receivers::posted_are_inputs))]
+pub fn posted_are_inputs()
+    ensures { Stays PostedAreInputs }
+{}
+
+/// Of a datagram that a device is receiving some payload is still to come, and if it was matched, then to an input of that
+/// device.
+#[tactic(auto, using(crate::proofs::Inputs::Receivers::matched_are_inputs))]
+pub fn matched_are_inputs()
+    ensures { Stays MatchedAreInputs }
+{}
+
+/// What a machine boots with is orderly.
+#[tactic(auto, using(crate::proofs::Runs::Orderly::boot_is_orderly))]
+pub fn boot_is_orderly()
+    ensures { BootIsOrderly }
+{}
+
+/// A step from an orderly state leaves an orderly one.
+pub fn steps_stay_orderly()
+    ensures { Stays IsOrderly }
+{}
+
+/// Every state that a run reaches is orderly: it has all of this.
+pub fn runs_stay_orderly()
+    ensures { RunsStayOrderly }
+{}

@@ -1,6 +1,0 @@
--- Scripts run alike.
-use Rattle.genie_replay.proofs.Alike.{scripts_run_alike}
-use Rattle.genie_replay.proofs.laws.scripts_run_alike.Goals as goal
-
-pub returns : goal.returns
-returns c = scripts_run_alike c.runs_alike.ensures

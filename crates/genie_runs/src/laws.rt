@@ -1,0 +1,26 @@
+//! Laws of runs.
+ghost use Rattle.genie_runs.specs.Alike.{ScriptsRunAlike};
+ghost use Rattle.genie_runs.specs.Reached.{RunsAreSound};
+
+use genie_laws::laws;
+use genie_orderly::laws::runs_stay_orderly;
+use genie_script::laws::scripts_keep_limits;
+
+/// Two scripts that differ in nothing but the thresholds, or in whether their calls are emulated, give the same replies
+/// and the same bytes of each device, where the inputs are told and are the same.
+pub fn scripts_run_alike()
+    ensures { ScriptsRunAlike }
+{
+    laws::runs_alike();
+}
+
+/// Every state that a run reaches is orderly, its outputs keep integrity up to there, and so do bytes under weak transfers
+/// from there on.
+pub fn runs_are_sound()
+    ensures { RunsAreSound }
+{
+    runs_stay_orderly();
+    laws::outputs_keep_integrity();
+    laws::weak_transfers_keep_bytes();
+    scripts_keep_limits();
+}

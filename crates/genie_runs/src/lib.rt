@@ -1,0 +1,4 @@
+//! Laws of the runs of scripts.
+#![tactic(auto)]
+
+pub mod laws;
