@@ -14,4 +14,5 @@ pub mod Renamed
 pub mod Showing
 pub mod Spending
 pub mod Touching
+pub mod Unused
 pub mod Works

@@ -1,6 +1,7 @@
 pub mod Calls
 pub mod Costs
 pub mod Keeping
+pub mod Laws
 pub mod Lemmas
 pub mod Memory
 pub mod Objects

@@ -1,10 +1,10 @@
 -- When a memory is sound, in parts over its lists.
-use Rattle.std.specs.Prelude.{◌≡◌, ℕ, ◌<◌, Bool, true, false, ◌==◌, List, length, count_by, sum_by, Option, Some, slice_index_or, if◌then◌else◌}
+use Rattle.std.specs.Prelude.{◌≡◌, ℕ, ◌+◌, ◌<◌, Bool, true, false, ◌==◌, List, [], All, length, replicate, count_by, sum_by, Option, Some, slice_index_or, if◌then◌else◌}
 use Rattle.genie_frame.specs.declared.frame.Owner.{Owner}
 use Rattle.genie_frame.specs.declared.frame.Owner.TheVariants.{Free, Page}
 use Rattle.genie_frame.specs.declared.frame.Counts.{Counts}
 use Rattle.genie_frame.specs.declared.frame.FrameId.{FrameId}
-use Rattle.genie_frame.specs.FrameTable.{is_system, is_held, no_counts, counts_at, IsShaped, AreLoansOwned}
+use Rattle.genie_frame.specs.FrameTable.{is_system, is_held, no_counts, counts_at, free_frames, IsShaped, AreLoansOwned}
 use Rattle.genie_store.specs.StoreView.{StoreView}
 use Rattle.genie_store.specs.Slots.{slot_at}
 use Rattle.genie_object.specs.declared.pages.Place.{Place}
@@ -13,7 +13,7 @@ use Rattle.genie_object.specs.declared.pages.PageId.{PageId}
 use Rattle.genie_object.specs.declared.pages.PageInfo.{PageInfo}
 use Rattle.genie_object.specs.declared.objects.Entry.{Entry}
 use Rattle.genie_object.specs.declared.memory.Memory.{Memory}
-use Rattle.genie_object.specs.Pages.{page_at}
+use Rattle.genie_object.specs.Pages.{page_at, no_page, is_there}
 use Rattle.genie_object.specs.Objects.{object_at, entry_at, names}
 
 -- how many entries name the page
@@ -83,6 +83,15 @@ pub record IsSound (m : Memory) : Type 0 where
   pub slotted : AreSlotted m.slots m.pages.pages
   pub shared : IsShared m.pages.pages m.objects
   pub guarded : IsProtected m.frames.counts m.pages.pages m.objects
+
+-- all frames and slots are free, and no page and no object is there
+pub record IsUnused (m : Memory) (frames page slots : ℕ) : Type 0 where
+  pub free : m.frames ≡ free_frames frames page
+  pub pages : All (λ q. q ≡ no_page) m.pages.pages
+  pub none : count_by is_there m.pages.pages ≡ 0
+  pub most : m.pages.most ≡ frames + slots
+  pub absent : m.objects ≡ replicate 512 []
+  pub untaken : m.slots ≡ replicate slots false
 
 -- the store has as many slots as the memory, of the frames' page size
 pub record IsSized (m : Memory) (v : StoreView) : Type 0 where

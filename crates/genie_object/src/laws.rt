@@ -1,4 +1,5 @@
 //! Laws of a memory.
+ghost use Rattle.genie_object.specs.Laws.{MovesSoundly, ComesUnseen, RenamesSoundly, PermitsUnseen};
 ghost use Rattle.genie_object.specs.Keeping.{ShowsSame, ShowsCounts, ShowsStored, ShowsLanded, ShowsFrame, ShowsSameBytes, ShowsDisowned, ShowsGiven, ShowsTaken, ShowsLent, ShowsEnded, ShowsUnseenEnd, ShowsLastLoan, ShowsUnlent, KeepsSound};
 
 /// A step that leaves bytes, places and entries alone shows what was seen before.
@@ -87,4 +88,25 @@ pub fn unlent_law()
 #[tactic(auto, using(crate::specs::Lemmas::Showing::keeps_sound))]
 pub fn sound_law()
     ensures { KeepsSound }
+{}
+
+/// A page that goes to another place, which no other page has, leaves the memory sound.
+pub fn moved_page_law()
+    ensures { MovesSoundly }
+{}
+
+/// A page that comes into a free frame with its bytes leaves the memory sound, and shows what was seen before.
+pub fn coming_page_law()
+    ensures { ComesUnseen }
+{}
+
+/// An entry that gets an untouched page of its own leaves the memory sound. The page that it named stays with those that
+/// share it.
+pub fn fresh_page_law()
+    ensures { RenamesSoundly }
+{}
+
+/// An entry that permits more leaves the memory sound, and shows what was seen before.
+pub fn permitted_entry_law()
+    ensures { PermitsUnseen }
 {}

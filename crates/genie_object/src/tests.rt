@@ -2,7 +2,7 @@
 ghost use Rattle.std.specs.Prelude.{◌≡◌, ◌<◌, ℕ, not, length, count_by};
 ghost use Rattle.genie_object.specs.Objects.{is_absent, object_at};
 
-use crate::{Entry, EntryRef, ObjectId, Objects, PageId, Pages, Place};
+use crate::{Entry, EntryRef, Memory, ObjectId, Objects, PageId, Pages, Place};
 
 // A page is shared by three, and gives its place up with the last of them.
 #[test]
@@ -90,4 +90,14 @@ fn permissions_go_from_each_object(rt: HostRuntime) {
     assert_eq!(rt; permits(&objects, first, 1), (Some(page), false, false));
     assert_eq!(rt; permits(&objects, second, 0), (Some(page), false, false));
     assert_eq!(rt; permits(&objects, second, 1), (Some(other), true, true));
+}
+
+// Fresh memory has all frames and slots free, and the pages of an object that is made there are untouched.
+#[test]
+fn memory_is_made(rt: HostRuntime) {
+    let mut memory = Memory::new(rt.alloc(), 2, 16, 1).expect(&rt, "memory");
+    assert_eq!(rt; (memory.frames.free(), memory.slots.free()), (2, 1));
+    let object = memory.make_object(3);
+    let last = memory.objects.entry(EntryRef { object, index: 2 });
+    assert_eq!(rt; last.page, None);
 }

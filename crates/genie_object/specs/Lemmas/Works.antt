@@ -7,7 +7,7 @@ use Rattle.genie_frame.specs.declared.frame.Meters.{Meters}
 use Rattle.genie_object.specs.declared.memory.Memory.{Memory}
 use Rattle.genie_object.specs.declared.pages.Place.{Place}
 use Rattle.genie_object.specs.declared.pages.Place.TheVariants.{Zero, Frame, Slot}
-use Rattle.genie_object.specs.Costs.{AreBelow, CostsNoMore, write_work, writes_work, slot_gets, must_copy}
+use Rattle.genie_object.specs.Costs.{AreBelow, CostsNoMore, read_work, write_work, writes_work, slot_gets, is_untouched, must_copy}
 
 -- an entry costs no more, where no entry does
 pub writes_less : (old new : Memory) (o i : ℕ) → CostsNoMore old new → new.frames.page ≡ old.frames.page → write_work new o i ≤ write_work old o i
@@ -30,6 +30,9 @@ writes_next m o first i (suc k) e = let same : k ≡ i = omega arith in rw same 
 -- it costs a page at most to write in an entry
 pub write_most : (m : Memory) (o i : ℕ) → write_work m o i ≤ m.frames.page
 write_most m o i = elim (must_copy m o i) as (λ b. (if b then m.frames.page else 0) ≤ m.frames.page) [ true ↦ omega arith | false ↦ omega arith ]
+
+pub read_most : (m : Memory) (o i : ℕ) → read_work m o i ≤ m.frames.page
+read_most m o i = elim (is_untouched m o i) as (λ b. (if b then m.frames.page else 0) ≤ m.frames.page) [ true ↦ omega arith | false ↦ omega arith ]
 
 pub writes_most : (m : Memory) (o first n : ℕ) → m.frames.page ≤ 4096 → writes_work m o first n ≤ 4096 * n
 writes_most m o first zero l = omega arith
