@@ -1,4 +1,5 @@
 pub mod Bringing
+pub mod Ending
 pub mod Loading
-pub mod Ranging
+pub mod Reading
 pub mod Resolved

@@ -222,7 +222,7 @@ module _ (m : Memory) (o i q : ℕ) (x : CanRename m o i q) (g : FrameId) (b : L
   shares_parted : (t : Meters) → (page_at (metered new t).pages.pages q).shares ≡ 1
   shares_parted t = ap (λ (r : PageInfo). r.shares) (of_page base q g b sound some unheld there free full) ∙ ap (λ (r : PageInfo). r.shares) (of_q m o i q x)
 
-can_rename : (m after : Memory) (v : StoreView) (o i : ℕ) (g : FrameId) → i < length (object_at m.objects o) → IsSound m → ((p : PageId) → (entry_at m.objects o i).page ≡ Some p → 1 < (page_at m.pages.pages p.0).shares) → (y : IsParted m after v o i g) → CanRename m o i y.number
+pub can_rename : (m after : Memory) (v : StoreView) (o i : ℕ) (g : FrameId) → i < length (object_at m.objects o) → IsSound m → ((p : PageId) → (entry_at m.objects o i).page ≡ Some p → 1 < (page_at m.pages.pages p.0).shares) → (y : IsParted m after v o i g) → CanRename m o i y.number
 can_rename m after v o i g l s many y = record { sound = s; there = l; many = many; spare = y.spare; room = y.room }
 
 pub in_parted : (m new : Memory) (v : StoreView) (o i : ℕ) (g : FrameId) → i < length (object_at m.objects o) → IsSound m → ((p : PageId) → (entry_at m.objects o i).page ≡ Some p → 1 < (page_at m.pages.pages p.0).shares) → (y : IsParted m new v o i g) → IsIn m new v o i (record { 0 = y.number }) g × ((page_at new.pages.pages y.number).shares ≡ 1)

@@ -1,6 +1,6 @@
 -- What a frame is loaded with.
-use Rattle.std.specs.Prelude.{◌≡◌, ℕ, ◌+◌, ◌<◌, ◌≤◌, true, Some, count_by, List, length, Result, OnOk, OnErr, IfSome}
-use Rattle.genie_frame.specs.FrameTable.{FrameTable, bytes_at, owner_at, set_bytes, is_free}
+use Rattle.std.specs.Prelude.{◌≡◌, ℕ, ◌+◌, ◌<◌, ◌≤◌, true, false, Some, None, count_by, List, length, Result, OnOk, OnErr, IfSome}
+use Rattle.genie_frame.specs.FrameTable.{FrameTable, bytes_at, counts_at, owner_at, set_bytes, is_free, is_lent}
 use Rattle.genie_frame.specs.declared.frame.Owner.TheVariants.{Free, System}
 use Rattle.genie_frame.specs.declared.frame.FrameId.{FrameId}
 use Rattle.genie_frame.specs.FrameTable.{set_owner}
@@ -98,6 +98,18 @@ pub record IsResolved (old new : Memory) (v : StoreView) (o i : ℕ) (f : FrameI
   pub free : count_by is_free old.frames.owners ≤ count_by is_free new.frames.owners + 1
   pub pages : count_by is_there new.pages.pages ≤ count_by is_there old.pages.pages + 1
   pub costs : CostsNoMore old new
+
+-- a page that was in no frame came into one without a loan, a page in a frame left all frames as they were, and no frame
+-- that somebody had changed its owner
+pub record BringsIn (old : Memory) (new : FrameTable) (o i f : ℕ) : Type 0 where
+  pub fresh : entry_frame old o i ≡ None → is_lent (counts_at old.frames f) ≡ false
+  pub stays : (g : ℕ) → entry_frame old o i ≡ Some g → new ≡ old.frames
+  pub owners : (g : ℕ) → is_free (owner_at old.frames g) ≡ false → owner_at new g ≡ owner_at old.frames g
+
+-- what a call that has resolved an entry for reading leaves
+pub record IsReadIn (old new : Memory) (v : StoreView) (o i : ℕ) (f : FrameId) : Type 0 where
+  pub resolved : IsResolved old new v o i f
+  pub brings : BringsIn old new.frames o i f.0
 
 -- the same for a call that makes the entry's page private
 pub record IsWritten (old new : Memory) (v : StoreView) (o i : ℕ) (f : FrameId) : Type 0 where

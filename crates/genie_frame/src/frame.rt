@@ -87,6 +87,13 @@ impl Counts {
         self.strong > 0 || self.weak > 0 || self.input > 0
     }
 
+    /// Whether a loan is out through which a device reads or writes the page as it is at that moment.
+    pub fn is_held(self) -> bool
+        ensures { result ≡ table.is_held self }
+    {
+        self.weak > 0 || self.input > 0
+    }
+
     // Whose a frame with these counts is once its owner has left it.
     pub(crate) fn unowned(self) -> Owner
         ensures { result ≡ spec.unowned self }

@@ -1,4 +1,5 @@
 -- Lemmas on memories and their parts, for the proofs of the crates above.
+pub mod Calls
 pub mod Changing
 pub mod Costing
 pub mod Entries
@@ -13,3 +14,4 @@ pub mod Renamed
 pub mod Showing
 pub mod Spending
 pub mod Touching
+pub mod Works

@@ -1,3 +1,4 @@
+pub mod Calls
 pub mod Costs
 pub mod Keeping
 pub mod Lemmas

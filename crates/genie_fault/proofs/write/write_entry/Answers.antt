@@ -6,7 +6,7 @@ use Rattle.genie_object.specs.Costs.{slot_gets}
 use Rattle.genie_object.specs.Pages.{page_at}
 use Rattle.genie_fault.proofs.Resolved.{in_brought, in_parted, written_in, written_framed, shares_brought, strong_unheld}
 use Rattle.genie_object.specs.Lemmas.Spending.{spends_more, work_own, work_part, place_named}
-use Rattle.genie_fault.proofs.fault.write_entry.Goals as goal
+use Rattle.genie_fault.proofs.write.write_entry.Goals as goal
 
 pub returns-in-Ok-clause-written : goal.returns-in-Ok-clause-written
 returns-in-Ok-clause-written g c =

@@ -3,7 +3,7 @@ use Rattle.genie_object.specs.declared.memory.Memory.{Memory}
 use Rattle.genie_object.specs.declared.pages.Place.TheVariants.{Frame}
 use Rattle.genie_object.specs.Steps.{relocated}
 use Rattle.genie_fault.proofs.Bringing.{known_entry, parted}
-use Rattle.genie_fault.proofs.fault.part.Goals as goal
+use Rattle.genie_fault.proofs.bring.part.Goals as goal
 
 pub take_loaded-requires-clause-known : goal.take_loaded-requires-clause-known
 take_loaded-requires-clause-known g c = rw c.place_of-place.ensures (known_entry _ c.args.at.object.0 c.args.at.index c.requires.sound c.requires.many)
