@@ -145,9 +145,7 @@ mod tests {
 
     #[test]
     fn processes(rt: HostRuntime) -> Result<(), NoMemory> {
-        let Some(page) = PageSize::new(64) else {
-            return Ok(());
-        };
+        let page = PageSize::new(64).expect(&rt, "a page size");
         let mut spaces = Spaces::new(rt.alloc(), page)?;
         assert_eq!(rt; spaces.page().get(), 64);
         spaces.spawn(0);
@@ -181,9 +179,7 @@ mod tests {
 
     #[test]
     fn ends(rt: HostRuntime) -> Result<(), NoMemory> {
-        let Some(page) = PageSize::new(16) else {
-            return Ok(());
-        };
+        let page = PageSize::new(16).expect(&rt, "a page size");
         let mut spaces = Spaces::new(rt.alloc(), page)?;
         spaces.spawn(3);
         spaces.drop_space(3);

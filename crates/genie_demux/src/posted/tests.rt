@@ -1,5 +1,3 @@
-ghost use Rattle.std.specs.Prelude.{◌≡◌, []};
-
 use super::*;
 
 /// Six inputs of two devices, two ports and two flows.
@@ -72,30 +70,5 @@ fn matches(rt: HostRuntime) -> Result<(), NoMemory> {
             );
         }
     }
-    Ok(())
-}
-
-/// Posts 64 inputs for one port, numbered from 0.
-fn post_all(posted: &mut Posted)
-    requires { posted.old ≡ [] }
-{
-    for id in 0..64 {
-        posted.post(3, 5, None, id);
-    }
-}
-
-/// There is room for 64 inputs, which are met in order.
-#[test]
-fn the_most_inputs(rt: HostRuntime) -> Result<(), NoMemory> {
-    let mut posted = Posted::new(rt.alloc())?;
-    post_all(&mut posted);
-    assert_eq!(rt; posted.len(), 64);
-    assert_eq!(rt; posted.cancel(32), Ok(()));
-    for id in 0..64 {
-        if id != 32 {
-            assert_eq!(rt; posted.match_port(3, 5, Some(9)), Some(id));
-        }
-    }
-    assert_eq!(rt; posted.match_port(3, 5, Some(9)), None);
     Ok(())
 }

@@ -1,6 +1,5 @@
 use super::*;
 use genie_base::{Area, ObjectId};
-use std::process::Abort;
 
 /// A region of `pages` pages from page `start` on, with this number.
 fn region(id: u32, start: u32, pages: u32) -> Region {
@@ -124,105 +123,14 @@ fn reaches(rt: HostRuntime) {
     }
     assert!(rt; regions.find_writable(64, 1, page).is_some());
     assert!(rt; regions.find_writable(96, 1, page).is_none(), "read-only");
+    assert!(rt; regions.starting_at(6).is_some());
+    assert!(rt; regions.starting_at(5).is_none(), "within a region");
+    assert!(rt; regions.get(RegionId(3)).is_some());
+    regions.set_state(RegionId(3), RegionState::Held);
+    assert!(rt; regions.starting_at(6).is_none(), "held");
     assert!(rt; regions.get(RegionId(7)).is_some());
     assert_eq!(rt; regions.remove(RegionId(7)).start, 4);
     assert_eq!(rt; regions.len(), 2);
     assert_eq!(rt; regions.at(0).id, RegionId(3));
     assert!(rt; regions.find(64, 1, page).is_none(), "removed");
-}
-
-/// A held region isn't reached at any of its bytes, and a region in another state is.
-#[test]
-fn states(rt: HostRuntime) {
-    let page = PageSize::new(16).expect(&rt, "a page size");
-    let mut regions = Regions::new();
-    assert!(rt; add(&mut regions, region(7, 4, 2)));
-    assert!(rt; add(&mut regions, region(3, 6, 1)));
-    let table = [
-        (RegionState::Out, Some(7)),
-        (RegionState::Held, None),
-        (RegionState::In, Some(7)),
-        (RegionState::Live, Some(7)),
-    ];
-    for (state, want) in table {
-        assert!(rt; regions.get(RegionId(7)).is_some());
-        regions.set_state(RegionId(7), state);
-        for (addr, len) in [(64, 0), (64, 1), (64, 32), (80, 16), (95, 0), (95, 1)] {
-            assert_eq!(rt;
-                reached_id(&regions, addr, len, page),
-                want,
-                "{state:?} {addr} {len}"
-            );
-        }
-        assert_eq!(rt;
-            regions.find_writable(64, 1, page).is_some(),
-            want.is_some()
-        );
-        assert_eq!(rt;
-            reached_id(&regions, 96, 1, page),
-            Some(3),
-            "the other region"
-        );
-    }
-}
-
-/// Covers the pages `from` to `to` by regions of at most 64 pages, in order, numbered by their start pages.
-fn cover(rt: &impl Abort, regions: &mut Regions, from: u32, to: u32) {
-    let mut start = from;
-    for _ in 0..8 {
-        if start < to {
-            let pages = (to - start).min(64);
-            assert!(rt;
-                add(regions, region(start, start, pages)),
-                "{from} {to} {start}"
-            );
-            start += pages;
-        }
-    }
-    assert!(rt; start >= to);
-}
-
-/// In a gap of each size, at either end of the system area or between, what fits is placed at its first page.
-#[test]
-fn gaps(rt: HostRuntime) {
-    for gap in 0..=512 {
-        let spare = 512 - gap;
-        for before in [0, spare / 2, spare] {
-            let mut regions = Regions::new();
-            let start = 512 + before;
-            cover(&rt, &mut regions, 512, start);
-            cover(&rt, &mut regions, start + gap, 1024);
-            let some = if gap > 0 { Some(start) } else { None };
-            assert_eq!(rt; regions.place(1), some, "1 in {gap} after {before}");
-            assert_eq!(rt;
-                regions.place(gap + 1),
-                None,
-                "too many in {gap} after {before}"
-            );
-            if gap > 0 {
-                assert_eq!(rt; regions.place(gap), some, "{gap} after {before}");
-            }
-        }
-    }
-}
-
-/// The first byte and the last of an address space of 1,024 pages, and 32 regions, as many as there may be.
-#[test]
-fn ends(rt: HostRuntime) {
-    let page = PageSize::new(4096).expect(&rt, "a page size");
-    let mut regions = Regions::new();
-    assert!(rt; add(&mut regions, region(1, 1023, 1)));
-    assert!(rt; add(&mut regions, region(0, 0, 64)));
-    for id in 2..32u32 {
-        assert!(rt; add(&mut regions, region(id, 100 + id, 1)));
-    }
-    assert_eq!(rt; regions.len(), 32);
-    assert!(rt; !add(&mut regions, region(32, 200, 1)), "a region too many");
-    assert_eq!(rt; reached_id(&regions, 0, 1, page), Some(0));
-    assert_eq!(rt; reached_id(&regions, 0, 64 * 4096, page), Some(0));
-    assert_eq!(rt; reached_id(&regions, 1024 * 4096 - 1, 1, page), Some(1));
-    assert_eq!(rt; reached_id(&regions, 1024 * 4096, 0, page), None);
-    assert_eq!(rt; reached_id(&regions, 131 * 4096, 4096, page), Some(31));
-    assert_eq!(rt; regions.place(511), Some(512));
-    assert_eq!(rt; regions.place(512), None);
 }
