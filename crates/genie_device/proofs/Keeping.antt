@@ -68,12 +68,12 @@ begun_kind Pooled depth limit [] count a few = refl
 begun_kind Pooled depth limit (b ∷ buffers) count a few = absurd (omega arith)
 begun_kind Outboard depth limit buffers count a few = some_free buffers (none_filling limit buffers a) (let h : arrived_count buffers < depth = not_full depth (arrived_count buffers) few in omega arith)
 
-pub begun_kept : (kind : Kind) (depth limit : ℕ) (gathered gathered' : List ℕ) (present : Option Present) (header : Header) (place : Option ℕ) (buffers buffers' : List BufferView) (staged : List ℕ) (room : ℕ)
-    → IsDevice kind depth limit gathered present buffers staged room → present ≡ None → gathered' ≡ [] → header.len ≤ limit
+pub begun_kept : (kind : Kind) (depth limit : ℕ) (gathered gathered' : List ℕ) (present : Option Present) (header : Header) (place : Option ℕ) (buffers buffers' : List BufferView) (staged : List ℕ) (room reading : ℕ)
+    → IsDevice kind depth limit gathered present buffers staged room reading → present ≡ None → gathered' ≡ [] → header.len ≤ limit
     → is_outboard kind && nat_le depth (arrived_count buffers) ≡ false
     → place ≡ first_free buffers → buffers' ≡ begun (first_free buffers) buffers
-    → IsDevice kind depth limit gathered' (Some (record { header = header; moved = 0; buffer = place })) buffers' staged room
-begun_kept kind depth limit gathered gathered' present header place buffers buffers' staged room d absent empty len few e e' =
+    → IsDevice kind depth limit gathered' (Some (record { header = header; moved = 0; buffer = place })) buffers' staged room reading
+begun_kept kind depth limit gathered gathered' present header place buffers buffers' staged room reading d absent empty len few e e' =
     let filling : AreBuffers limit None buffers = rw absent at d.filling in
     let same : buffers' ≡ begun place buffers = e' ∙ ap (λ (p : Option ℕ). begun p buffers) (sym e) in
     record {
@@ -83,6 +83,7 @@ begun_kept kind depth limit gathered gathered' present header place buffers buff
       filling = subst (AreBuffers limit (Some (record { header = header; moved = 0; buffer = place }))) (sym same) (begun_buffers limit header place buffers e filling);
       fits = d.fits;
       staging = d.staging;
+      reading = d.reading;
     }
 
 length-filled : (place : Option ℕ) (taken : List ℕ) (buffers : List BufferView) → length (filled place taken buffers) ≡ length buffers
@@ -120,11 +121,11 @@ filled_buffers limit header (Some i) moved taken buffers a =
       ];
     }
 
-pub filled_kept : (kind : Kind) (depth limit : ℕ) (gathered : List ℕ) (header : Header) (place : Option ℕ) (moved n : ℕ) (taken : List ℕ) (buffers buffers' : List BufferView) (staged : List ℕ) (room : ℕ)
-    → IsDevice kind depth limit gathered (Some (record { header = header; moved = moved; buffer = place })) buffers staged room → length taken ≡ n → n ≤ header.len - moved
-    → buffers' ≡ filled place taken buffers
-    → IsDevice kind depth limit gathered (Some (record { header = header; moved = moved + n; buffer = place })) buffers' staged room
-filled_kept kind depth limit gathered header place moved n taken buffers buffers' staged room d size fits e =
+pub filled_kept : (kind : Kind) (depth limit : ℕ) (gathered : List ℕ) (header : Header) (place : Option ℕ) (moved n : ℕ) (taken : List ℕ) (buffers buffers' : List BufferView) (staged : List ℕ) (room reading reading' : ℕ)
+    → IsDevice kind depth limit gathered (Some (record { header = header; moved = moved; buffer = place })) buffers staged room reading → length taken ≡ n → n ≤ header.len - moved
+    → buffers' ≡ filled place taken buffers → reading' ≡ reading
+    → IsDevice kind depth limit gathered (Some (record { header = header; moved = moved + n; buffer = place })) buffers' staged room reading'
+filled_kept kind depth limit gathered header place moved n taken buffers buffers' staged room reading reading' d size fits e same =
     let old : moved ≤ header.len = d.allowed.moved in
     record {
       short = d.short;
@@ -133,4 +134,5 @@ filled_kept kind depth limit gathered header place moved n taken buffers buffers
       filling = rw (e, sym size) (filled_buffers limit header place moved taken buffers d.filling);
       fits = d.fits;
       staging = d.staging;
+      reading = rw same d.reading;
     }

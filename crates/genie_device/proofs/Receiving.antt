@@ -1,8 +1,8 @@
 -- A step of a payload so far.
-use Rattle.std.proofs.Common.{◌≡◌, ℕ, ◌+◌, ◌-◌, ◌<◌, ◌≤◌, ◌⊎◌, min, List, [], ◌++◌, length, take, refl, ap, sym, ◌∙◌, subst, arith, inl, inr, true, false, zero, suc, append-nil}
+use Rattle.std.proofs.Common.{◌≡◌, ℕ, ◌+◌, ◌-◌, ◌<◌, ◌≤◌, ◌⊎◌, min, List, [], ◌++◌, length, take, drop, refl, ap, sym, ◌∙◌, subst, arith, inl, inr, true, false, zero, suc, append-nil}
 use Rattle.std.specs.Prelude.{Option, Some, None, Ok, Err, ◌==◌, if◌then◌else◌, IfSome}
 use Rattle.std.proofs.lemmas.Grind.{common_steps}
-use Rattle.std.proofs.lemmas.List.{length-append}
+use Rattle.std.proofs.lemmas.List.{length-append, length-take, length-drop}
 use Rattle.std.specs.Io.KnownBytes.{Consumes, IsAtEnd}
 use Rattle.std.proofs.KnownBytes.{Consumes-nil, Consumes-trans, Consumes-kept}
 use Rattle.genie_base.specs.Bytes.{overlaid}
@@ -152,8 +152,19 @@ risen a b c p q = omega arith
 pub risen_most : (a b c moved count size : ℕ) → b ≤ a + moved → c ≤ b + size → count ≡ size → c ≤ a + (moved + count)
 risen_most a b c moved count size p q e = omega arith
 
-pub runs_on : (moved budget want count size : ℕ) → want ≡ min (budget - moved) 512 → size ≡ want → count ≤ size → moved < budget → moved + count ≤ budget
-runs_on moved budget want count size e f g h = omega arith
+pub runs_on : (moved budget want count size room : ℕ) → want ≡ min (budget - moved) room → size ≡ want → count ≤ size → moved < budget → moved + count ≤ budget
+runs_on moved budget want count size room e f g h = omega arith
 
-pub run_some : (moved budget want size : ℕ) → want ≡ min (budget - moved) 512 → size ≡ want → moved < budget → 0 < size
-run_some moved budget want size e f h = omega arith
+pub run_some : (moved budget want size room : ℕ) → want ≡ min (budget - moved) room → 0 < room → size ≡ want → moved < budget → 0 < size
+run_some moved budget want size room e s f h = omega arith
+
+-- a buffer in which a front was filled is as long as before
+pub refilled_size : (n : ℕ) (new old : List ℕ) → n ≡ length old → length (take n (new ++ drop (length new) old)) ≡ length old
+refilled_size n new old e = omega (arith, e, length-take n (new ++ drop (length new) old), length-append new (drop (length new) old), length-drop (length new) old)
+
+pub buffer_some : (n : ℕ) (now old : List ℕ) → 0 < length old → length now ≡ length old → n ≡ length now → 0 < n
+buffer_some n now old some same e = omega arith
+
+-- the run that was lent is as long as wanted
+pub run_size : (want most n : ℕ) (into items : List ℕ) → want ≡ min most n → n ≡ length items → length into ≡ length (take want items) → length into ≡ want
+run_size want most n into items e f g = omega (arith, e, f, g, length-take want items)

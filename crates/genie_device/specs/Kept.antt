@@ -23,10 +23,11 @@ pub record AreBuffers (limit : ℕ) (present : Option Present) (buffers : List B
   pub filled : (k : ℕ) → buffer_of present ≡ Some k → IsFilledTo (moved_of present) (state_at buffers k)
   pub others : (k : ℕ) → is_filling (state_at buffers k) ≡ true → buffer_of present ≡ Some k
 
-pub record IsDevice (kind : Kind) (depth limit : ℕ) (gathered : List ℕ) (present : Option Present) (buffers : List BufferView) (staged : List ℕ) (room : ℕ) : Type 0 where
+pub record IsDevice (kind : Kind) (depth limit : ℕ) (gathered : List ℕ) (present : Option Present) (buffers : List BufferView) (staged : List ℕ) (room read_room : ℕ) : Type 0 where
   pub short : is_whole_header gathered ≡ false
   pub allowed : IfSome present (IsAllowed kind limit)
   pub count : length buffers ≡ buffer_count kind depth
   pub filling : AreBuffers limit present buffers
   pub fits : length staged < 2 ^ 32
   pub staging : is_outboard kind ≡ true → limit ≤ room
+  pub reading : 0 < read_room

@@ -1,5 +1,5 @@
 //! A buffer of outboard memory.
-ghost use Rattle.std.specs.Prelude.{◌≡◌, ◌+◌, ◌≤◌, [], true, length, IfOk};
+ghost use Rattle.std.specs.Prelude.{◌≡◌, ◌+◌, ◌<◌, ◌≤◌, [], true, length, IfOk};
 ghost use Rattle.genie_host.specs.Host.{Reading};
 ghost use Rattle.genie_device.specs.Buffers.{Free, free_buffer, Filling, Arrived, is_free, is_filling, is_arrived, bytes_in, Fills};
 
@@ -73,13 +73,30 @@ impl Buffer {
     }
 
     /// Moves at most `n` of a payload's `left` bytes from a handle behind those that it has.
-    pub fn receive<H: Host>(&mut self, host: &mut H, handle: u32, left: u32, n: u32) -> BodyStep
+    pub fn receive<H: Host>(
+        &mut self,
+        host: &mut H,
+        handle: u32,
+        read_buffer: &mut Vec<u8>,
+        left: u32,
+        n: u32,
+    ) -> BodyStep
         requires reading { ((H.view host.old).handle handle).mode ≡ Reading }
         requires filling { is_filling self.old.state ≡ true }
         requires room { length (bytes_in self.old.state) + left ≤ self.old.room }
-        ensures { Fills handle left n (H.view host.old) (H.view host.new) self.old self.new result.moved result.end }
+        requires some { 0 < length read_buffer.old.items }
+        ensures buffer { length read_buffer.new.items ≡ length read_buffer.old.items }
+        ensures fills { Fills handle left n (H.view host.old) (H.view host.new) self.old self.new result.moved result.end }
     {
-        let step = receive(host, handle, &mut self.memory, self.len, left, n);
+        let step = receive(
+            host,
+            handle,
+            read_buffer,
+            &mut self.memory,
+            self.len,
+            left,
+            n,
+        );
         self.len += step.moved;
         step
     }

@@ -26,6 +26,9 @@ use genie_wire::Header;
 use std::alloc::Global;
 use std::marker::Model;
 
+/// The most bytes that one read takes from the host: the largest budget of a step.
+const MOST_READ: usize = 65536;
+
 /// A device that takes records from its input and appends records to its output, byte for byte. All memory is
 /// reserved by `new`, and no other call refuses.
 #[derive(Drop)]
@@ -38,10 +41,11 @@ pub struct Device {
     buffers: Vec<Buffer>,
     staged: Vec<u8>,
     sent: u32,
+    read_buffer: Vec<u8>,
 }
 
 impl Model for Device {
-    ghost use Rattle.std.specs.Prelude.{vec_capacity};
+    ghost use Rattle.std.specs.Prelude.{vec_capacity, length};
     ghost use Rattle.genie_device.specs.Device.{DeviceView};
     ghost use Rattle.genie_device.specs.Kept.{IsDevice};
 
@@ -58,13 +62,13 @@ impl Model for Device {
       sent = d.sent;
     } };
 
-    ghost invariant = { λ d. IsDevice d.config.kind d.config.depth d.limit d.gathered.items d.present d.buffers.items d.staged.items (vec_capacity d.staged) };
+    ghost invariant = { λ d. IsDevice d.config.kind d.config.depth d.limit d.gathered.items d.present d.buffers.items d.staged.items (vec_capacity d.staged) (length d.read_buffer.items) };
 }
 
 impl Device {
     /// A device that has gathered, staged and sent nothing, with pages of `page` bytes. A datagram has at most 16 pages
     /// on a pooled device, else 64. An outboard device has memory for one staged payload and `config.depth` buffers, each
-    /// for the longest datagram.
+    /// for the longest datagram. Each device has a buffer through which payload bytes come in.
     pub fn new(alloc: Global, config: &DeviceConfig, page: u32) -> Result<Device, NoMemory>
         requires { IsTrue (is_page_size page) }
         ensures { IfOk result (λ device. device ≡ idle_device config.now page) }
@@ -86,6 +90,7 @@ impl Device {
             buffers: free_buffers(alloc, count, limit)?,
             staged: Vec::with_capacity(alloc, staging as usize)?,
             sent: 0,
+            read_buffer: read_buffer(alloc, MOST_READ)?,
         })
     }
 
@@ -217,7 +222,15 @@ impl Device {
         let Some(present) = self.present else {
             unreachable!()
         };
-        let step = move_payload(host, handle, landing, &mut self.buffers, &present, n);
+        let step = move_payload(
+            host,
+            handle,
+            &mut self.read_buffer,
+            landing,
+            &mut self.buffers,
+            &present,
+            n,
+        );
         self.present = Some(Present {
             moved: present.moved + step.moved,
             ..present
@@ -331,6 +344,13 @@ impl Device {
             faulted: step.faulted,
         }
     }
+}
+
+/// A buffer of so many bytes for what one read takes from the host.
+fn read_buffer(alloc: Global, most: usize) -> Result<Vec<u8>, NoMemory>
+    ensures { IfOk result (λ buffer. length buffer.items ≡ most) }
+{
+    Ok(vec![in alloc; 0; most]?)
 }
 
 #[cfg(test)]

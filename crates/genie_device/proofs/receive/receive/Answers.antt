@@ -1,6 +1,5 @@
-use Rattle.std.proofs.Common.{arith, ◌∙◌}
-use Rattle.std.proofs.lemmas.Grind.{common_steps}
-use Rattle.genie_device.proofs.Receiving.{landed_none, landed_more, landed_failed, landed_stopped, landed_all, risen, risen_most, runs_on, run_some}
+use Rattle.std.proofs.Common.{arith, rules, ◌∙◌, refl}
+use Rattle.genie_device.proofs.Receiving.{landed_none, landed_more, landed_failed, landed_stopped, landed_all, risen, risen_most, runs_on, run_some, buffer_some, run_size, refilled_size}
 use Rattle.genie_device.proofs.receive.receive.Goals as goal
 
 pub runs-init : goal.runs-init
@@ -10,6 +9,7 @@ runs-init g c = record {
   later = omega arith;
   most = omega arith;
   kept = g.met.L.Landing.reflexive _;
+  buffer = refl;
 }
 
 pub read-requires : goal.read-requires
@@ -26,7 +26,7 @@ returns-in-Ok-eq0-clause-step g c =
     let so = rw c.min-budget.ensures at c.runs.invariant.so in
     let less = rw c.min-budget.ensures at c.runs-test.true in
     let step = rw c.in-Ok-eq0.field-0-test at c.in-Ok-eq0.ensures.step in
-    rw c.stopped.ensures (landed_stopped _ _ _ _ _ _ _ _ _ _ _ so step less (run_some _ _ _ _ c.min-want.ensures (let h = c.min-want.array_long in let k = c.read.auto.into in grind (arith, common_steps)) c.runs-test.true))
+    rw c.stopped.ensures (landed_stopped _ _ _ _ _ _ _ _ _ _ _ so step less (run_some _ _ _ _ _ c.min-want.ensures (buffer_some _ _ _ c.requires.some c.runs.invariant.buffer (search rules)) (run_size _ _ _ _ _ c.min-want.ensures (search rules) c.read.auto.into) c.runs-test.true))
 
 pub runs-preserved : goal.runs-preserved
 runs-preserved g c =
@@ -34,11 +34,12 @@ runs-preserved g c =
     let content = c.land.ensures.content in
     let most = c.land.ensures.most in
     record {
-      so = landed_more _ _ _ _ _ _ _ _ _ _ _ _ c.runs.invariant.so c.in-Ok.ensures.step bound.0 (runs_on _ _ _ _ _ c.min-want.ensures (let h = c.min-want.array_long in let k = c.read.auto.into in grind (arith, common_steps)) bound.0 c.runs-test.true) content;
+      so = landed_more _ _ _ _ _ _ _ _ _ _ _ _ c.runs.invariant.so c.in-Ok.ensures.step bound.0 (runs_on _ _ _ _ _ _ c.min-want.ensures (run_size _ _ _ _ _ c.min-want.ensures (search rules) c.read.auto.into) bound.0 c.runs-test.true) content;
       ready = c.land.ensures.ready;
       later = risen _ _ _ c.runs.invariant.later c.land.ensures.later;
       most = risen_most _ _ _ _ _ _ c.runs.invariant.most most bound.1;
       kept = g.met.L.Landing.transitive _ _ _ c.runs.invariant.kept c.land.ensures.kept;
+      buffer = refilled_size _ _ _ (search rules) ∙ c.runs.invariant.buffer;
     }
 
 pub returns-clause-step : goal.returns-clause-step

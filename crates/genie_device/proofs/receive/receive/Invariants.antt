@@ -1,4 +1,4 @@
-use Rattle.std.proofs.Common.{◌-◌, ◌+◌, ◌≤◌}
+use Rattle.std.proofs.Common.{◌-◌, ◌+◌, ◌≤◌, ◌≡◌, length}
 use Rattle.genie_device.proofs.Receiving.{Landed}
 use Rattle.genie_device.proofs.receive.receive.Given as goal
 
@@ -9,6 +9,7 @@ invariant-runs g l = record {
   later : g.L.Landing.count l.initial.landing ≤ g.L.Landing.count l.landing;
   most : g.L.Landing.count l.landing ≤ g.L.Landing.count l.initial.landing + l.moved;
   kept : g.L.Landing.kept l.initial.landing l.landing;
+  buffer : length l.buffer.items ≡ length l.initial.buffer.items;
 }
 
 abbrev pub decreases-runs : goal.decreases-runs

@@ -8,8 +8,8 @@ invariant_of-self g c =
     let room = rw (sym c.self.view_is) at c.requires.room in
     still_within _ _ _ _ _ _ _ _ _ _ _ c.receive-step.ensures.step refl (room_at _ _ _ _ filling c.self.invariant.0 room) c.self.invariant.1
 
-pub returns : goal.returns
-returns g c =
+pub returns-clause-fills : goal.returns-clause-fills
+returns-clause-fills g c =
     let filling = rw (sym c.self.view_is) at c.requires.filling in
     let room = rw (sym c.self.view_is) at c.requires.room in
     rw (sym c.self.view_is) (filled_from _ _ _ _ _ _ _ _ _ _ _ c.receive-step.ensures.step filling (room_at _ _ _ _ filling c.self.invariant.0 room))
