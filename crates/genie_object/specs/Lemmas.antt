@@ -6,6 +6,7 @@ pub mod Filled
 pub mod Granted
 pub mod Lookup
 pub mod Named
+pub mod Naming
 pub mod ObjectLaws
 pub mod Relocated
 pub mod Renamed

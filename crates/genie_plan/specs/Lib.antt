@@ -1,0 +1,11 @@
+pub mod Buffers
+pub mod Ending
+pub mod Fresh
+pub mod Landings
+pub mod LandingKept
+pub mod Laws
+pub mod Lemmas
+pub mod Loans
+pub mod Plans
+pub mod Staying
+pub mod Wiring
