@@ -1,6 +1,6 @@
 //! What every step keeps, and what is so of every state that a run reaches.
 ghost use Rattle.std.specs.Prelude.{◌≡◌, length};
-ghost use Rattle.genie_orderly.specs.Orderly.{RegionsAreApart, WiredIsBounded, CommittedIsBounded, NumbersRise, NumbersDiffer, OrphansAreNamed, OrphansRise, OrphanPlacesRise, OrphansAreTidy, RangesLie, HeldForOne, PostedAreInputs, MatchedAreInputs, DevicesAreConfigs, IsOrderly};
+ghost use Rattle.genie_orderly.specs.Orderly.{RegionsAreApart, WiredIsBounded, CommittedIsBounded, NumbersRise, NumbersDiffer, NumbersAreBelow, OrphansAreNamed, OrphansRise, OrphanPlacesRise, OrphansAreTidy, RangesLie, HeldForOne, PostedAreInputs, MatchedAreInputs, DevicesAreConfigs, AreTransfers, OneIsSent, MovingAreReceived, DatagramsSuit, DepthsAreKept, IsOrderly};
 ghost use Rattle.genie_orderly.specs.Steps.{Stays, StepsGrow, StepsKeepConfig, PlainStepsShowNoFault, BootIsOrderly, RunsStayOrderly};
 
 /// In a step devices keep their kinds and depths, what they have sent stays sent, and the number of the next transfer stays
@@ -62,6 +62,11 @@ pub fn numbers_differ()
     ensures { Stays NumbersDiffer }
 {}
 
+/// All of these numbers are below 577.
+pub fn numbers_are_below()
+    ensures { Stays NumbersAreBelow }
+{}
+
 /// A pending weak transfer names each orphan.
 #[tactic(auto, using(crate::proofs::Orphans::Named::orphans_are_named))]
 pub fn orphans_are_named()
@@ -109,6 +114,32 @@ pub fn posted_are_inputs()
 #[tactic(auto, using(crate::proofs::Inputs::Receivers::matched_are_inputs))]
 pub fn matched_are_inputs()
     ensures { Stays MatchedAreInputs }
+{}
+
+/// An output is queued or ready, and an input posted, receiving or ready; only a copy input keeps an address, and a move's
+/// buffer begins its region; and no more is stored than the buffer holds.
+pub fn calls_stay()
+    ensures { Stays AreTransfers }
+{}
+
+/// Of the outputs that wait for a device, nothing is staged or sent but of the first.
+pub fn one_is_sent()
+    ensures { Stays OneIsSent }
+{}
+
+/// An input is receiving only while its device receives a datagram that was matched to it.
+pub fn moving_are_received()
+    ensures { Stays MovingAreReceived }
+{}
+
+/// An early device matches or skips datagrams, another one gathers them, and none is longer than its device takes.
+pub fn datagrams_suit()
+    ensures { Stays DatagramsSuit }
+{}
+
+/// Where a device isn't early, the datagrams that wait for their `done` and the one on its way are at most its depth.
+pub fn depths_are_kept()
+    ensures { Stays DepthsAreKept }
 {}
 
 /// What a machine boots with is orderly.

@@ -16,8 +16,8 @@ use Rattle.genie_base.specs.declared.event.Event.TheVariants.{Recv}
 use Rattle.genie_model.specs.declared.fate.Fate.{Fate}
 use Rattle.genie_model.specs.declared.fate.Fate.TheVariants.{Matched, Skipped, Gathering}
 use Rattle.genie_model.specs.declared.phase.Phase.TheVariants.{Moving, Ready}
-use Rattle.genie_laws.specs.Integrity.{is_under_input, next_header, is_to_come, payload_byte, byte_to_come, matched_to, met_by, met, Landed, InputsKeepIntegrity}
-use Rattle.genie_orderly.specs.Orderly.{OrphanPlacesRise, IsInput, GoesToInput, IsUnderWay, ReceivesForInput, IsOrderly}
+use Rattle.genie_laws.specs.Integrity.{is_under_input, next_header, is_to_come, payload_byte, byte_to_come, met_by, met, Landed, InputsKeepIntegrity}
+use Rattle.genie_orderly.specs.Orderly.{matched_to, OrphanPlacesRise, IsInput, GoesToInput, IsUnderWay, ReceivesForInput, IsOrderly}
 use Rattle.genie_model.specs.State.{State, Transfer, Device, Datagram}
 use Rattle.genie_model.specs.Tables.{change, entry}
 use Rattle.genie_model.specs.Regions.{bytes_of}
