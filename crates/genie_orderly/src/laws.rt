@@ -5,19 +5,19 @@ ghost use Rattle.genie_orderly.specs.Steps.{Stays, StepsGrow, StepsKeepConfig, P
 
 /// In a step devices keep their kinds and depths, what they have sent stays sent, and the number of the next transfer stays
 /// or rises by one.
-#[tactic(auto, using(crate::specs::lemmas::Growth::steps_grow))]
+#[tactic(auto, using(crate::specs::Lemmas::Growth::steps_grow))]
 pub fn steps_grow()
     ensures { StepsGrow }
 {}
 
 /// The reply to a step in which nothing fails shows no fault.
-#[tactic(auto, using(crate::specs::lemmas::Growth::plain_steps_show_no_fault))]
+#[tactic(auto, using(crate::specs::Lemmas::Growth::plain_steps_show_no_fault))]
 pub fn plain_steps_show_no_fault()
     ensures { PlainStepsShowNoFault }
 {}
 
 /// A step keeps the configuration.
-#[tactic(auto, using(crate::specs::lemmas::KeptCalls::steps_keep_config))]
+#[tactic(auto, using(crate::specs::Lemmas::KeptCalls::steps_keep_config))]
 pub fn steps_keep_config()
     ensures { StepsKeepConfig }
 {}
@@ -29,7 +29,7 @@ pub fn places_stay()
 {}
 
 /// A device is there exactly where the configuration has one, with its kind and depth.
-#[tactic(auto, using(crate::specs::lemmas::Growth::devices_are_configs))]
+#[tactic(auto, using(crate::specs::Lemmas::Growth::devices_are_configs))]
 pub fn devices_are_configs()
     ensures { Stays DevicesAreConfigs }
 {}

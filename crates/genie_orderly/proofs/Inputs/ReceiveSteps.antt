@@ -21,10 +21,10 @@ use Rattle.genie_model.specs.Pending.{is_early, is_inward, is_posted, is_queued,
 use Rattle.genie_model.specs.Space.{Outcome}
 use Rattle.genie_model.specs.Sending.{change_device}
 use Rattle.genie_model.specs.Receiving.{receiving, set_device, is_between_records, is_busy, with_phase, with_datagram, gathered, after_receiving, change_transfer, deliver, complete, landing, landed, land_in, land, after_bytes, go_on, take_payload, datagram, skipped, match_header, begin_datagram, read_header, take_header, receive_record, receive, recv}
-use Rattle.genie_model.specs.lemmas.ReceiveSteps.{choice}
-use Rattle.genie_model.specs.lemmas.Lists.{entry_set, has_at, all_has, find_has, entry_same}
-use Rattle.genie_model.specs.lemmas.SendQueues.{same_number}
-use Rattle.genie_model.specs.lemmas.PendingCalls.{KeepsCall, change_remain, remain_order}
+use Rattle.genie_model.specs.Lemmas.ReceiveSteps.{choice}
+use Rattle.genie_model.specs.Lemmas.Lists.{entry_set, has_at, all_has, find_has, entry_same}
+use Rattle.genie_model.specs.Lemmas.SendQueues.{same_number}
+use Rattle.genie_model.specs.Lemmas.PendingCalls.{KeepsCall, change_remain, remain_order}
 use Rattle.genie_orderly.proofs.Transfers.Changes.{all_numbered, pairs_change, count_changed, count_less}
 use Rattle.genie_base.specs.declared.reply.Reply.TheVariants as reply
 

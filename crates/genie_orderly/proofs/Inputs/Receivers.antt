@@ -14,7 +14,7 @@ use Rattle.genie_model.specs.declared.fate.Fate.TheVariants.{Matched, Skipped, G
 use Rattle.genie_model.specs.declared.phase.Phase.TheVariants.{Queued, Posted, Moving, Ready}
 use Rattle.genie_orderly.specs.Orderly.{has_phase, IsTransfer, AreTransfers, WaitsBehind, OneIsSent, receives_for, MovingAreReceived, SuitsDevice, DatagramsSuit, KeepsDepth, DepthsAreKept, PostedAreInputs, IsInput, GoesToInput, IsUnderWay, ReceivesForInput, MatchedAreInputs, IsOrderly}
 use Rattle.genie_orderly.proofs.Transfers.Changes.{count_less, count_pushed, pairs_first, pairs_without}
-use Rattle.genie_base.proofs.Searches.{pairs_mapped}
+use Rattle.genie_base.specs.Lemmas.Searches.{pairs_mapped}
 use Rattle.genie_model.specs.State.{State, Region, Transfer, Device, Datagram}
 use Rattle.genie_model.specs.Tables.{entry, change, without}
 use Rattle.genie_model.specs.Regions.{regions_at, reach_of}
@@ -26,12 +26,12 @@ use Rattle.genie_model.specs.Sending.{change_device, with_sent, next_part, after
 use Rattle.genie_model.specs.Receiving.{recv}
 use Rattle.genie_model.specs.Ending.{without_transfer, region_of, finish_found, cancel_found}
 use Rattle.genie_model.specs.Step.{accept, perform, step}
-use Rattle.genie_model.specs.lemmas.ReceiveSteps.{choice}
+use Rattle.genie_model.specs.Lemmas.ReceiveSteps.{choice}
 use Rattle.genie_orderly.proofs.Inputs.ReceiveSteps.{IsKnown, received}
-use Rattle.genie_model.specs.lemmas.Lists.{entry_set}
-use Rattle.genie_orderly.specs.lemmas.NamingTransfers.{all_change, all_without, count_kept, count_without}
-use Rattle.genie_model.specs.lemmas.Steps.{step_so}
-use Rattle.genie_model.specs.lemmas.OnlyRegions.{SameBut, copies_like, remove_like, protect_like, stored_like, given_up_like, buffer_like, finish_for_like}
+use Rattle.genie_model.specs.Lemmas.Lists.{entry_set}
+use Rattle.genie_orderly.specs.Lemmas.NamingTransfers.{all_change, all_without, count_kept, count_without}
+use Rattle.genie_model.specs.Lemmas.Steps.{step_so}
+use Rattle.genie_model.specs.Lemmas.OnlyRegions.{SameBut, copies_like, remove_like, protect_like, stored_like, given_up_like, buffer_like, finish_for_like}
 use Rattle.genie_base.specs.declared.semantics.Direction.{Direction}
 use Rattle.genie_base.specs.declared.semantics.Direction.TheVariants.{Outward, Inward}
 use Rattle.genie_base.specs.declared.reply.Mark.{Mark}

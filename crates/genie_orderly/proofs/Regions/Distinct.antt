@@ -19,10 +19,10 @@ use Rattle.genie_model.specs.Outputs.{moved_out}
 use Rattle.genie_model.specs.Inputs.{moved_in, with_buffer, weak_buffer, reusable, pages_for}
 use Rattle.genie_model.specs.Ending.{filled}
 use Rattle.genie_model.specs.Step.{accept, perform, with_budget, step}
-use Rattle.genie_orderly.specs.lemmas.AcceptedEvents.{fork_accepted}
-use Rattle.genie_orderly.specs.lemmas.RegionNumbers.{one, times, none_above, all_below, fresh_below, once_each, differ_from_once, few_numbers, few_numbers_beside, fresh_unused, no_longer}
+use Rattle.genie_orderly.specs.Lemmas.AcceptedEvents.{fork_accepted}
+use Rattle.genie_orderly.specs.Lemmas.RegionNumbers.{one, times, none_above, all_below, fresh_below, once_each, differ_from_once, few_numbers, few_numbers_beside, fresh_unused, no_longer}
 use Rattle.genie_orderly.proofs.Regions.Numbers.{Once, added_once, copies_once, spawned_times, change_kept, out_kept, in_kept, put_kept, tidy_once, removed_times, exited_times}
-use Rattle.genie_model.specs.lemmas.Steps.{event_so}
+use Rattle.genie_model.specs.Lemmas.Steps.{event_so}
 use Rattle.genie_orderly.proofs.Regions.Copied.{accessible_few}
 use Rattle.genie_orderly.proofs.Runs.Events.{IsKept, event_kept}
 

@@ -11,9 +11,9 @@ use Rattle.genie_model.specs.Space.{with_region, add_region, copy_of, add_copies
 use Rattle.genie_model.specs.Outputs.{moved_out_of, moved_out}
 use Rattle.genie_model.specs.Inputs.{moved_in_of, moved_in}
 use Rattle.genie_orderly.specs.Orderly.{region_numbers, orphan_numbers, numbers}
-use Rattle.genie_orderly.specs.lemmas.RegionNumbers.{one, once, times, times-append, no_longer, used_times, fresh_unused, fresh_below}
-use Rattle.genie_orderly.specs.lemmas.FoundRegions.{all_of, numbers_in, joined_numbers}
-use Rattle.genie_model.specs.lemmas.Lists.{Has}
+use Rattle.genie_orderly.specs.Lemmas.RegionNumbers.{one, once, times, times-append, no_longer, used_times, fresh_unused, fresh_below}
+use Rattle.genie_orderly.specs.Lemmas.FoundRegions.{all_of, numbers_in, joined_numbers}
+use Rattle.genie_model.specs.Lemmas.Lists.{Has}
 
 -- how often a number is that of a region
 abbrev pub region_times : ℕ → State → ℕ

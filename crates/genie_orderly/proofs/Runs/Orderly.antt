@@ -15,9 +15,9 @@ use Rattle.genie_model.specs.State.{State, Process, Device, boot, boot_devices}
 use Rattle.genie_model.specs.Tables.{entry}
 use Rattle.genie_model.specs.Step.{step, Follows}
 use Rattle.genie_orderly.proofs.Regions.Distinct.{numbers_differ, numbers_are_below}
-use Rattle.genie_orderly.specs.lemmas.Growth.{devices_are_configs}
+use Rattle.genie_orderly.specs.Lemmas.Growth.{devices_are_configs}
 use Rattle.genie_orderly.proofs.Names.Steps.{held_for_one}
-use Rattle.genie_orderly.specs.lemmas.KeptCalls.{steps_keep_config}
+use Rattle.genie_orderly.specs.Lemmas.KeptCalls.{steps_keep_config}
 use Rattle.genie_orderly.proofs.Orphans.Named.{orphans_are_named}
 use Rattle.genie_orderly.proofs.Transfers.Numbers.{numbers_rise}
 use Rattle.genie_orderly.proofs.Orphans.Rising.{orphans_rise, orphan_places_rise}

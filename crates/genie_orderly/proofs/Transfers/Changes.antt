@@ -7,8 +7,8 @@ use Rattle.std.proofs.lemmas.List.Kept.{AllPairs-cons}
 use Rattle.genie_model.specs.State.{Transfer}
 use Rattle.genie_model.specs.Tables.{change, without}
 use Rattle.genie_model.specs.Pending.{is_numbered}
-use Rattle.genie_model.specs.lemmas.Lists.{pairs_all, pairs_tail}
-use Rattle.genie_orderly.specs.lemmas.NamingTransfers.{all_change, all_without, count-cons}
+use Rattle.genie_model.specs.Lemmas.Lists.{pairs_all, pairs_tail}
+use Rattle.genie_orderly.specs.Lemmas.NamingTransfers.{all_change, all_without, count-cons}
 
 -- transfers in the order of their numbers: the one of this number is changed, and no other one
 pub all_numbered : (k : ℕ) (f : Transfer → Transfer) (P Q : Transfer → Type 0) → ((t : Transfer) → (t.number == k) ≡ true → P t → Q (f t)) → ((t : Transfer) → (t.number == k) ≡ false → P t → Q t)

@@ -16,7 +16,7 @@ use Rattle.genie_model.specs.Regions.{regions_of, is_region, is_orphan, has_numb
 use Rattle.genie_model.specs.Pending.{is_just, names, names_weakly}
 use Rattle.genie_model.specs.Space.{is_named}
 use Rattle.genie_orderly.specs.Orderly.{region_numbers, orphan_numbers, numbers, IsOrderly}
-use Rattle.genie_model.specs.lemmas.FreshNumbers.{fresh_begins}
+use Rattle.genie_model.specs.Lemmas.FreshNumbers.{fresh_begins}
 
 abbrev pub one : Bool → ℕ
 one true = 1
