@@ -1,5 +1,6 @@
 pub mod Ending
 pub mod Inputs
+pub mod Lemmas
 pub mod Outputs
 pub mod Pending
 pub mod Receiving
@@ -12,4 +13,3 @@ pub mod Space
 pub mod State
 pub mod Step
 pub mod Tables
-pub mod lemmas

@@ -1,3 +1,4 @@
 -- The pending transfers.
+pub mod Changes
 pub mod Frames
 pub mod Numbers

@@ -12,7 +12,7 @@ use Rattle.genie_host.specs.Host.{HostView, HandleState, OnlyHandle}
 use Rattle.genie_orderly.specs.Steps.{Grows, ShowNoFault}
 use Rattle.genie_model.specs.State.{State}
 use Rattle.genie_model.specs.Step.{Follows, step}
-use Rattle.genie_orderly.specs.lemmas.Growth.{steps_grow, plain_steps_show_no_fault}
+use Rattle.genie_orderly.specs.Lemmas.Growth.{steps_grow, plain_steps_show_no_fault}
 use Rattle.genie_script.specs.Judge.{Numbered}
 use Rattle.genie_script.specs.Spelling.{reply_text}
 use Rattle.genie_script.specs.declared.judge.Judged.{Judged}

@@ -10,10 +10,10 @@ use Rattle.genie_model.specs.Tables.{entry}
 use Rattle.genie_model.specs.Regions.{extent_of, regions_of, regions_at, is_region, is_orphan, has_number, is_used, region_numbered, change_process}
 use Rattle.genie_model.specs.Space.{with_region, add_region, spawned}
 use Rattle.genie_orderly.specs.Orderly.{LiesInRegion, Lies, is_held, holds, orphan_numbers, numbers}
-use Rattle.genie_model.specs.lemmas.Lists.{Has, or_next, any_has, has_any, find_none, any_append, entry_set, entry_same}
-use Rattle.genie_orderly.specs.lemmas.FoundRegions.{all_of, region_found, joined_numbers, splits, find_middle}
-use Rattle.genie_orderly.specs.lemmas.NamedRanges.{KeepsLies, KeepsHeld}
-use Rattle.genie_orderly.specs.lemmas.ChangedRegions.{holds_it, holds_by}
+use Rattle.genie_model.specs.Lemmas.Lists.{Has, or_next, any_has, has_any, find_none, any_append, entry_set, entry_same}
+use Rattle.genie_orderly.specs.Lemmas.FoundRegions.{all_of, region_found, joined_numbers, splits, find_middle}
+use Rattle.genie_orderly.specs.Lemmas.NamedRanges.{KeepsLies, KeepsHeld}
+use Rattle.genie_orderly.specs.Lemmas.ChangedRegions.{holds_it, holds_by}
 
 in_order_beside : (k : ℕ) (r : Region) → (r.number == k) ≡ false → (rs : List Region) → find (is_region k) (add_in_order extent_of r rs) ≡ find (is_region k) rs
 in_order_beside k r f [] = rw f refl

@@ -10,9 +10,9 @@ use Rattle.genie_model.specs.Tables.{change, without}
 use Rattle.genie_model.specs.Pending.{names}
 use Rattle.genie_model.specs.Space.{is_move}
 use Rattle.genie_orderly.specs.Orderly.{moves_into}
-use Rattle.genie_model.specs.lemmas.Lists.{any_append}
-use Rattle.genie_orderly.specs.lemmas.NamedRanges.{Fine, One, Stand}
-use Rattle.genie_model.specs.lemmas.PendingCalls.{KeepsCall}
+use Rattle.genie_model.specs.Lemmas.Lists.{any_append}
+use Rattle.genie_orderly.specs.Lemmas.NamedRanges.{Fine, One, Stand}
+use Rattle.genie_model.specs.Lemmas.PendingCalls.{KeepsCall}
 
 abbrev as_one : Bool → ℕ
 as_one b = cond b 1 0

@@ -16,8 +16,8 @@ use Rattle.genie_model.specs.Regions.{regions_at, is_region, is_orphan, region_n
 use Rattle.genie_model.specs.Pending.{is_inward, is_just, names, names_weakly, covers}
 use Rattle.genie_model.specs.Space.{is_move, is_named, cut, tidy}
 use Rattle.genie_orderly.specs.Orderly.{LiesInRegion, LiesInOrphan, Lies, RangesLie, is_held, holds, MayName, moves_into, HeldForOne, NumbersDiffer, IsOrderly}
-use Rattle.genie_model.specs.lemmas.Lists.{Has, all_has, has_at, any_has, has_any, none_from, find_has, find_map, find_filter, any_filter}
-use Rattle.genie_orderly.specs.lemmas.FoundRegions.{all_of, has_region, found_at, no_orphan_at}
+use Rattle.genie_model.specs.Lemmas.Lists.{Has, all_has, has_at, any_has, has_any, none_from, find_has, find_map, find_filter, any_filter}
+use Rattle.genie_orderly.specs.Lemmas.FoundRegions.{all_of, has_region, found_at, no_orphan_at}
 
 -- a move input names the region that its owner holds
 abbrev pub Holds : State → Transfer → ℕ → Type 0

@@ -10,7 +10,7 @@ use Rattle.genie_model.specs.Space.{remove_found, protect_found, add_copies, add
 use Rattle.genie_model.specs.Outputs.{give_up}
 use Rattle.genie_model.specs.Inputs.{with_buffer, weak_buffer, reusable, pages_for}
 use Rattle.genie_model.specs.Ending.{filled, finish_for}
-use Rattle.genie_model.specs.lemmas.Ends.{finish_for_keeps}
+use Rattle.genie_model.specs.Lemmas.Ends.{finish_for_keeps}
 
 -- only processes and orphans differ
 abbrev pub SameBut : State → State → Type 0

@@ -16,7 +16,7 @@ use Rattle.genie_model.specs.Regions.{put}
 use Rattle.genie_model.specs.Pending.{is_early, pending, first_posted}
 use Rattle.genie_model.specs.Space.{Outcome}
 use Rattle.genie_model.specs.Receiving.{set_device, is_busy, with_phase, change_transfer, deliver, complete, landing, landed, land_in, land, after_bytes, go_on, take_payload, datagram, skipped, match_header, begin_datagram, read_header, take_header, receive_record, receive, recv}
-use Rattle.genie_model.specs.lemmas.PendingCalls.{KeepsCall}
+use Rattle.genie_model.specs.Lemmas.PendingCalls.{KeepsCall}
 
 pub choice : (P : State → Type 0) (b : Bool) (x y : Outcome) → P x.0 → P y.0 → P (if b then x else y).0
 choice P true x y p q = p

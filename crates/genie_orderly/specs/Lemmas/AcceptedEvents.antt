@@ -27,7 +27,7 @@ use Rattle.genie_model.specs.State.{State, Region}
 use Rattle.genie_model.specs.Tables.{entry}
 use Rattle.genie_model.specs.Pending.{pending}
 use Rattle.genie_model.specs.Step.{with_budget}
-use Rattle.genie_model.specs.lemmas.Causes.{Fails, none_holds, both_none, most_end, second_holds}
+use Rattle.genie_model.specs.Lemmas.Causes.{Fails, none_holds, both_none, most_end, second_holds}
 
 -- n pages from this one on are a region that process p may get: in their area, free, and with room in the table of the
 -- process and in the store

@@ -12,7 +12,7 @@ use Rattle.genie_model.specs.Space.{as_orphan, add_orphan, add_orphans}
 use Rattle.genie_orderly.specs.Orderly.{region_numbers, orphan_numbers, NumbersDiffer}
 use Rattle.genie_model.specs.Pending.{is_just}
 use Rattle.genie_model.specs.Ending.{region_of}
-use Rattle.genie_model.specs.lemmas.Lists.{Has, or_next, has_left, has_right, has_map, none_from, find_append, find_first, find_none, none_found, find_put_other, find_put_here, pairs_head, pairs_tail, entry_map, find_has}
+use Rattle.genie_model.specs.Lemmas.Lists.{Has, or_next, has_left, has_right, has_map, none_from, find_append, find_first, find_none, none_found, find_put_other, find_put_here, pairs_head, pairs_tail, entry_map, find_has}
 
 abbrev pub all_of : List (Option Process) → List Region
 all_of processes = flat_map regions_of processes

@@ -10,9 +10,9 @@ use Rattle.genie_model.specs.Tables.{entry}
 use Rattle.genie_model.specs.Regions.{extent_of, regions_of, regions_at, reach_of, place_in, change_process, changed, changed_in, change_region, with_state}
 use Rattle.genie_model.specs.Space.{accessible}
 use Rattle.genie_orderly.specs.Orderly.{IsRegion, AreApart, RegionsAreApart}
-use Rattle.genie_model.specs.lemmas.Lists.{Has, all_has, find_has, at_entry}
-use Rattle.genie_orderly.specs.lemmas.FoundRegions.{all_of, has_region}
-use Rattle.genie_orderly.specs.lemmas.ChangedRegions.{InPlace, in_place_by}
+use Rattle.genie_model.specs.Lemmas.Lists.{Has, all_has, find_has, at_entry}
+use Rattle.genie_orderly.specs.Lemmas.FoundRegions.{all_of, has_region}
+use Rattle.genie_orderly.specs.Lemmas.ChangedRegions.{InPlace, in_place_by}
 use Rattle.std.proofs.lemmas.List.{length-replicate}
 use Rattle.genie_base.specs.Lemmas.Overlaid.{length-overlaid}
 use Rattle.genie_model.specs.Ending.{filled}

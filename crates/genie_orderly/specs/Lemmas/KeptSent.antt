@@ -7,8 +7,8 @@ use Rattle.genie_model.specs.Tables.{entry}
 use Rattle.genie_orderly.specs.Orderly.{shape_of}
 use Rattle.genie_model.specs.Sending.{change_device}
 use Rattle.genie_model.specs.Receiving.{receiving, recv}
-use Rattle.genie_model.specs.lemmas.Lists.{entry_set}
-use Rattle.genie_model.specs.lemmas.ReceiveSteps.{recv_does, any_answer}
+use Rattle.genie_model.specs.Lemmas.Lists.{entry_set}
+use Rattle.genie_model.specs.Lemmas.ReceiveSteps.{recv_does, any_answer}
 
 -- devices are as before, and nothing more was sent
 pub record Keeps (s t : State) : Type 0 where

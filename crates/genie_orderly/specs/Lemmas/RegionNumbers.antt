@@ -16,7 +16,7 @@ use Rattle.genie_model.specs.Regions.{regions_of, is_region, is_orphan, has_numb
 use Rattle.genie_model.specs.Pending.{is_just, names, names_weakly}
 use Rattle.genie_model.specs.Space.{is_named}
 use Rattle.genie_orderly.specs.Orderly.{region_numbers, orphan_numbers, numbers, IsOrderly}
-use Rattle.genie_model.specs.lemmas.FreshNumbers.{fresh_begins}
+use Rattle.genie_model.specs.Lemmas.FreshNumbers.{fresh_begins}
 
 abbrev pub one : Bool → ℕ
 one true = 1
@@ -96,21 +96,24 @@ used_times s k =
     let all : times k (numbers s) ≡ orphans + regions = omega (arith, times-append k (flat_map region_numbers s.processes) (orphan_numbers s.orphans)) in
     ap₂ ◌||◌ (orphans_some k s.orphans) (processes_some k s.processes) ∙ sym (or_some orphans regions) ∙ ap (nat_lt 0) (sym all)
 
--- the search ends at a number that isn't used, or all that were tried are
-tried : (s : State) (tries n : ℕ) → (is_used s (least_unused s tries n) ≡ false) ⊎ ((k : ℕ) → n ≤ k → k < n + tries → is_used s k ≡ true)
+-- the search ends at a number that isn't used and is one of those that were tried, or all of them are used
+tried : (s : State) (tries n : ℕ) → ((is_used s (least_unused s tries n) ≡ false) × (least_unused s tries n < n + tries)) ⊎ ((k : ℕ) → n ≤ k → k < n + tries → is_used s k ≡ true)
 unfolding least_unused
 tried s zero n = inr (λ k low high. absurd (omega arith))
 tried s (suc tries) n =
-    cond_both (is_used s n) (least_unused s tries (n + 1)) n (λ m. (is_used s m ≡ false) ⊎ ((k : ℕ) → n ≤ k → k < n + suc tries → is_used s k ≡ true))
-    (λ used. ⊎_elim inl (λ all. inr (λ k low high. ⊎_elim (λ e. subst (λ j. is_used s j ≡ true) e used) (λ other. all k (omega arith) (omega arith)) (cases_eq n k))) (tried s tries (n + 1)))
-    inl
+    cond_both (is_used s n) (least_unused s tries (n + 1)) n (λ m. ((is_used s m ≡ false) × (m < n + suc tries)) ⊎ ((k : ℕ) → n ≤ k → k < n + suc tries → is_used s k ≡ true))
+    (λ used. ⊎_elim (λ found. inl (found.0, let low = found.1 in omega (arith, low))) (λ all. inr (λ k low high. ⊎_elim (λ e. subst (λ j. is_used s j ≡ true) e used) (λ other. all k (omega arith) (omega arith)) (cases_eq n k))) (tried s tries (n + 1)))
+    (λ free. inl (free, omega arith))
 
-unused : (s : State) (tries : ℕ) → length (numbers s) < tries → is_used s (least_unused s tries 0) ≡ false
-unused s tries h = ⊎_elim (λ e. e) (λ all. let long = no_longer (range_with_len 0 tries) (numbers s) (range_within (numbers s) 0 tries (λ k low high. ltb-true 0 _ (sym (used_times s k) ∙ all k low high))) in absurd (omega (arith, long, length-range_with_len 0 tries))) (tried s tries 0)
+unused : (s : State) (tries : ℕ) → length (numbers s) < tries → (is_used s (least_unused s tries 0) ≡ false) × (least_unused s tries 0 < tries)
+unused s tries h = ⊎_elim (λ found. (found.0, let low = found.1 in omega (arith, low))) (λ all. let long = no_longer (range_with_len 0 tries) (numbers s) (range_within (numbers s) 0 tries (λ k low high. ltb-true 0 _ (sym (used_times s k) ∙ all k low high))) in absurd (omega (arith, long, length-range_with_len 0 tries))) (tried s tries 0)
 
 -- one of the 577 numbers is found
 pub fresh_unused : (s : State) → length (numbers s) ≤ 576 → is_used s (fresh s) ≡ false
-fresh_unused s h = rw (← fresh_begins s 577 refl) (unused s 577 (omega arith))
+fresh_unused s h = rw (← fresh_begins s 577 refl) (unused s 577 (omega arith)).0
+
+pub fresh_below : (s : State) → length (numbers s) ≤ 576 → fresh s < 577
+fresh_below s h = rw (← fresh_begins s 577 refl) (unused s 577 (omega arith)).1
 
 -- processes of at most m regions have so many numbers at most
 few_each : (m : ℕ) (processes : List (Option Process)) → All (λ (p : Option Process). length (regions_of p) ≤ m) processes → length (flat_map region_numbers processes) ≤ length processes * m
@@ -177,6 +180,14 @@ once_each (x ∷ xs) h k =
     (λ (e : (x == k) ≡ true). let none = none_there x xs (λ j d within. h zero (suc j) d (omega arith) (omega arith)) in subst (λ j. times j (x ∷ xs) ≤ 1) (eqb-true x k e) (omega (arith, none, once x)))
     (λ (e : (x == k) ≡ false). omega (arith, rest, ap one e))
     (cases_Bool (x == k))
+
+pub none_above : (k : ℕ) (xs : List ℕ) → All (λ (n : ℕ). n < 577) xs → 577 ≤ k → times k xs ≡ 0
+none_above k xs h high = none_there k xs (λ i d lt same. let low = h i d lt in absurd (omega (arith, low, same)))
+
+-- a list in which no number stands that is 577 or more
+pub all_below : (xs : List ℕ) → ((k : ℕ) → 577 ≤ k → times k xs ≡ 0) → All (λ (n : ℕ). n < 577) xs
+all_below [] h = All-nil (λ (n : ℕ). n < 577)
+all_below (x ∷ xs) h = All-cons (λ (n : ℕ). n < 577) x xs (⊎_elim (λ (e : (x < 577)). e) (λ high. let none = h x high in absurd (omega (arith, none, once x))) (cases_lt x 577)) (all_below xs (λ k high. let none = h k high in omega (arith, none)))
 
 all_other : (k : ℕ) (xs : List ℕ) → times k xs ≡ 0 → All (λ (n : ℕ). k ≢ n) xs
 all_other k [] h = All-nil (λ (n : ℕ). k ≢ n)

@@ -13,9 +13,9 @@ use Rattle.genie_model.specs.Tables.{entry}
 use Rattle.genie_model.specs.Regions.{regions_of, regions_at, is_region, is_orphan, region_numbered, orphan_numbered, is_within_range, change_process, changed, changed_in, with_bytes, stored_at, stored_in_orphan, put}
 use Rattle.genie_model.specs.Space.{placed, as_orphan, without_region, remove}
 use Rattle.genie_orderly.specs.Orderly.{LiesInRegion, LiesInOrphan, Lies, has_place, is_held, holds}
-use Rattle.genie_model.specs.lemmas.Lists.{find_map, find_filter, find_none, find_put_other, find_put_here, any_filter, any_map}
-use Rattle.genie_orderly.specs.lemmas.FoundRegions.{all_of, region_found, all_by, entry_by}
-use Rattle.genie_orderly.specs.lemmas.NamedRanges.{KeepsLies, KeepsHeld}
+use Rattle.genie_model.specs.Lemmas.Lists.{find_map, find_filter, find_none, find_put_other, find_put_here, any_filter, any_map}
+use Rattle.genie_orderly.specs.Lemmas.FoundRegions.{all_of, region_found, all_by, entry_by}
+use Rattle.genie_orderly.specs.Lemmas.NamedRanges.{KeepsLies, KeepsHeld}
 
 abbrev pub holds_it : ℕ → Region → Bool
 holds_it k r = is_region k r && is_held r.state

@@ -5,7 +5,7 @@ use Rattle.genie_model.specs.State.{State, Region, Process}
 use Rattle.genie_model.specs.Regions.{extent_of, regions_of, regions_at, change_process}
 use Rattle.genie_model.specs.Space.{with_region, add_region}
 use Rattle.genie_model.specs.Tables.{entry}
-use Rattle.genie_model.specs.lemmas.Lists.{entry_set}
+use Rattle.genie_model.specs.Lemmas.Lists.{entry_set}
 use Rattle.genie_base.specs.Regions.{Extent, add_in_order}
 
 -- one more in its place

@@ -11,7 +11,7 @@ use Rattle.genie_model.specs.Pending.{cost_of, is_numbered, covers}
 use Rattle.genie_model.specs.Tables.{change, without}
 use Rattle.genie_model.specs.Sending.{unsent, after_sending}
 use Rattle.genie_model.specs.declared.phase.Phase.TheVariants.{Ready}
-use Rattle.genie_model.specs.lemmas.Lists.{find_has, pairs_head, pairs_tail}
+use Rattle.genie_model.specs.Lemmas.Lists.{find_has, pairs_head, pairs_tail}
 
 -- u is what became of t
 pub record Same (t u : Transfer) : Type 0 where

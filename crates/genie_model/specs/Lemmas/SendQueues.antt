@@ -8,7 +8,7 @@ use Rattle.genie_base.specs.Transfers.{is_strong}
 use Rattle.genie_model.specs.State.{Transfer}
 use Rattle.genie_model.specs.Tables.{change, without}
 use Rattle.genie_model.specs.Pending.{is_numbered, waits_for}
-use Rattle.genie_model.specs.lemmas.Lists.{Has, pairs_head, pairs_tail}
+use Rattle.genie_model.specs.Lemmas.Lists.{Has, pairs_head, pairs_tail}
 
 -- without what an end of its process may change: its owner, and the region of a strong one
 abbrev pub plain : Transfer → Transfer

@@ -26,10 +26,10 @@ use Rattle.genie_model.specs.Ending.{finish_copy, finish_share, finish_move, fin
 use Rattle.genie_orderly.specs.Steps.{is_refused, id_of, StepsKeepConfig}
 use Rattle.genie_model.specs.Refusing.{refuse}
 use Rattle.genie_model.specs.Step.{accept, perform, with_budget, step}
-use Rattle.genie_model.specs.lemmas.PendingCalls.{Same, Remain, same, same_choice, remain, remain_later, change_remain, without_remain, filter_remain, map_remain, sending_call}
-use Rattle.genie_model.specs.lemmas.ReceiveSteps.{recv_does}
-use Rattle.genie_model.specs.lemmas.OnlyRegions.{SameBut, copies_like, remove_like, protect_like, stored_like, given_up_like, buffer_like, finish_for_like}
-use Rattle.genie_model.specs.lemmas.Steps.{event_so}
+use Rattle.genie_model.specs.Lemmas.PendingCalls.{Same, Remain, same, same_choice, remain, remain_later, change_remain, without_remain, filter_remain, map_remain, sending_call}
+use Rattle.genie_model.specs.Lemmas.ReceiveSteps.{recv_does}
+use Rattle.genie_model.specs.Lemmas.OnlyRegions.{SameBut, copies_like, remove_like, protect_like, stored_like, given_up_like, buffer_like, finish_for_like}
+use Rattle.genie_model.specs.Lemmas.Steps.{event_so}
 
 -- no call is accepted between these states
 pub record Keeps (s t : State) : Type 0 where

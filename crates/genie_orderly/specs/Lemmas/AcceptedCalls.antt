@@ -23,13 +23,13 @@ use Rattle.genie_model.specs.Pending.{wired, cost_of}
 use Rattle.genie_model.specs.Outputs.{place_reached}
 use Rattle.genie_model.specs.Inputs.{posted, address_or_zero}
 use Rattle.genie_model.specs.Refusing.{refuse, first_cause, causes, call_causes, target_causes, frames_to_wire}
-use Rattle.genie_model.specs.lemmas.Causes.{none_holds, second_holds, both_none, few_calls}
-use Rattle.genie_orderly.specs.lemmas.KeptCalls.{call_of, Keeps, with_call}
-use Rattle.genie_orderly.specs.lemmas.AcceptedEvents.{page_some}
+use Rattle.genie_model.specs.Lemmas.Causes.{none_holds, second_holds, both_none, few_calls}
+use Rattle.genie_orderly.specs.Lemmas.KeptCalls.{call_of, Keeps, with_call}
+use Rattle.genie_orderly.specs.Lemmas.AcceptedEvents.{page_some}
 use Rattle.std.proofs.lemmas.List.Elements.{All-push, All-weaker}
 use Rattle.std.proofs.lemmas.List.Quantifiers.{all_pairs_push}
 use Rattle.genie_orderly.specs.Orderly.{NumbersRise}
-use Rattle.genie_model.specs.lemmas.PendingCalls.{remain_few, remain_all, remain_order}
+use Rattle.genie_model.specs.Lemmas.PendingCalls.{remain_few, remain_all, remain_order}
 
 pub record IsAccepted (s : State) (t : Transfer) : Type 0 where
   pub number : t.number ≡ s.next

@@ -19,12 +19,12 @@ use Rattle.genie_model.specs.Space.{region_from, spawned, accessible}
 use Rattle.genie_model.specs.Sending.{change_device, with_sent, next_part, send_count, must_stage, send_next}
 use Rattle.genie_model.specs.Ending.{finish_found, cancel_found, without_transfer, region_of}
 use Rattle.genie_model.specs.Step.{answer, accept, perform}
-use Rattle.genie_orderly.specs.lemmas.KeptCalls.{call_of, with_call, accept_did, steps_keep_config}
-use Rattle.genie_orderly.specs.lemmas.KeptSent.{table_shapes, recv_quiet}
-use Rattle.genie_model.specs.lemmas.ReceiveSteps.{choice}
-use Rattle.genie_model.specs.lemmas.OnlyRegions.{SameBut, copies_like, remove_like, protect_like, stored_like, given_up_like, buffer_like, finish_for_like}
-use Rattle.genie_model.specs.lemmas.Lists.{entry_set}
-use Rattle.genie_model.specs.lemmas.Steps.{step_so}
+use Rattle.genie_orderly.specs.Lemmas.KeptCalls.{call_of, with_call, accept_did, steps_keep_config}
+use Rattle.genie_orderly.specs.Lemmas.KeptSent.{table_shapes, recv_quiet}
+use Rattle.genie_model.specs.Lemmas.ReceiveSteps.{choice}
+use Rattle.genie_model.specs.Lemmas.OnlyRegions.{SameBut, copies_like, remove_like, protect_like, stored_like, given_up_like, buffer_like, finish_for_like}
+use Rattle.genie_model.specs.Lemmas.Lists.{entry_set}
+use Rattle.genie_model.specs.Lemmas.Steps.{step_so}
 
 -- devices keep their shapes, and what was sent is added to
 record Adds (old new : List (Option Device)) : Type 0 where
