@@ -7,6 +7,7 @@ pub mod Receiving
 pub mod Refusing
 pub mod Regions
 pub mod Rows
+pub mod Runs
 pub mod Scripts
 pub mod Sending
 pub mod Space

@@ -381,10 +381,12 @@ fn step_line(
     ensures { IfSome flat.new (λ s. s.next ≤ most + 1) }
 {
     laws::steps_grow();
+    let mut said = PageBuffer::new();
+    let mut answer = PageBuffer::new();
     out.clear();
-    match judge_event(0, line.as_bytes()) {
+    match judge_event(0, line.as_bytes(), &mut said) {
         Judged::Taken(event) => {
-            let reply = flat.step(&event, mark)?;
+            let reply = flat.step(&event, mark, &mut answer)?;
             put_reply(&reply, out);
             Ok(())
         }
