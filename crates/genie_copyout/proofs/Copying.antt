@@ -4,8 +4,6 @@ use Rattle.std.specs.Prelude.{Option, Some, None}
 use Rattle.std.proofs.lemmas.List.{get_or-set_same, get_or-set_other, set-set, take_all}
 use Rattle.genie_base.specs.Bytes.{overlaid, part}
 use Rattle.genie_base.specs.Lemmas.Overlaid.{overlaid-nothing, length-overlaid}
-use Rattle.genie_base.specs.Lemmas.Places.{past_end}
-use Rattle.std.proofs.lemmas.Bool.{cases_lt}
 use Rattle.genie_frame.specs.declared.frame.FrameId.{FrameId}
 use Rattle.genie_frame.specs.declared.frame.Owner.{Owner}
 use Rattle.genie_frame.specs.declared.frame.Owner.TheVariants.{Free, Page, System, Pool, Nobody}
@@ -23,6 +21,7 @@ use Rattle.genie_object.specs.Memory.{seen, see_entry, see_kept, entry_frame, fr
 use Rattle.genie_object.specs.Sound.{IsSound, IsFramed, IsPrivate, strong_at}
 use Rattle.genie_object.specs.Keeping.{IsReady}
 use Rattle.genie_object.specs.Touching.{KeepsLoans, Touches}
+use Rattle.genie_object.specs.Lemmas.Lookup.{in_range}
 use Rattle.genie_object.specs.Lemmas.Showing.{shows_stored, seen_landed, keeps_sound}
 
 -- the bytes of one list around those of another
@@ -44,9 +43,6 @@ around (suc off) n zero b p s e h = absurd (omega arith)
 around (suc off) n (suc past) [] p s e h = absurd (omega arith)
 around (suc off) n (suc past) (x ∷ b) [] s e h = absurd (omega arith)
 around (suc off) n (suc past) (x ∷ b) (y ∷ p) s e h = ap (λ l. y ∷ l) (around off n past b p (omega arith) (omega arith) (omega arith))
-
-in_range : {X : Type 0} (xs : List X) (k : ℕ) (d : X) → get_or xs k d ≢ d → k < length xs
-in_range xs k d h = elim (cases_lt k (length xs)) [ inl l ↦ l | inr l ↦ absurd (h (past_end xs k d l)) ]
 
 -- where an entry's page is
 pub record PageIn (m : Memory) (o i : ℕ) (f : FrameId) : Type 0 where

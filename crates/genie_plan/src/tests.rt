@@ -1,5 +1,5 @@
 //! Bytes that land in lent frames, from each place of a page on and in runs of each length.
-ghost use Rattle.std.specs.Prelude.{ℕ, ◌+◌, ◌^◌, ◌<◌, ◌≤◌};
+ghost use Rattle.std.specs.Prelude.{ℕ, ◌+◌, ◌*◌, ◌^◌, ◌<◌, ◌≤◌};
 ghost use Rattle.genie_plan.specs.Plans.{input_frames, CanLand};
 
 use super::*;
