@@ -1,5 +1,5 @@
 -- A frame that was lent strongly, the bytes of its page, and what it has once the loan has ended.
-use Rattle.std.proofs.Common.{◌≡◌, ℕ, ◌<◌, ◌≤◌, ◌+◌, ◌-◌, true, false, [], arith, length, length-set, ap, refl, ◌∙◌, IsTrue}
+use Rattle.std.proofs.Common.{◌≡◌, ℕ, ◌<◌, ◌≤◌, true, [], arith, length, length-set, ap, refl, ◌∙◌, IsTrue}
 use Rattle.std.proofs.lemmas.List.{get_or-set_same, length-take-le}
 use Rattle.genie_base.specs.Bytes.{part}
 use Rattle.genie_frame.specs.declared.frame.Counts.{Counts}
