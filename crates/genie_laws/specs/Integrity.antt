@@ -14,8 +14,6 @@ use Rattle.genie_base.specs.declared.reply.Reply.{Reply}
 use Rattle.genie_base.specs.declared.reply.Reply.TheVariants.{Id}
 use Rattle.genie_base.specs.declared.semantics.Class.{Class}
 use Rattle.genie_base.specs.declared.semantics.Class.TheVariants.{Copy, Share, Move, WeakMove}
-use Rattle.genie_model.specs.declared.fate.Fate.{Fate}
-use Rattle.genie_model.specs.declared.fate.Fate.TheVariants.{Matched, Skipped, Gathering}
 use Rattle.genie_model.specs.Ending.{region_of}
 use Rattle.genie_model.specs.Sending.{sent_of}
 use Rattle.genie_model.specs.Inputs.{address_or_zero}

@@ -115,6 +115,12 @@ Lies s t (Some k) = LiesInRegion t (region_numbered s k) ⊎ LiesInOrphan t (orp
 abbrev pub RangesLie : State → Type 0
 RangesLie s = All (λ (t : Transfer). Lies s t t.region) s.transfers
 
+abbrev pub is_in : RegionState → Bool
+is_in Live = false
+is_in Out = false
+is_in In = true
+is_in Held = false
+
 abbrev pub is_held : RegionState → Bool
 is_held Live = false
 is_held Out = false
@@ -253,6 +259,56 @@ KeepsDepth n v = IfSome v (λ (w : Device). is_early w.kind ≡ false → n + on
 abbrev pub DepthsAreKept : State → Type 0
 DepthsAreKept s = (d : ℕ) → KeepsDepth (arrived s d) (entry s.devices d)
 
+-- an input of this class fills a region of this state: a weak move input one that is In, a move input one that is Held
+abbrev pub fills_state : RegionState → Class → Bool
+fills_state Live class = false
+fills_state Out class = false
+fills_state In Copy = false
+fills_state In Share = false
+fills_state In Move = false
+fills_state In WeakMove = true
+fills_state Held Copy = false
+fills_state Held Share = false
+fills_state Held Move = true
+fills_state Held WeakMove = false
+
+-- it is an input that fills region k as one of this state
+abbrev pub fills : RegionState → ℕ → Transfer → Bool
+fills state k t = is_inward t.direction && fills_state state t.class && names k t
+
+-- how many inputs fill a region of state `is` as one of this state
+abbrev pub awaited : RegionState → RegionState → ℕ
+awaited state Live = 0
+awaited state Out = 0
+awaited state In = if is_in state then 1 else 0
+awaited state Held = if is_held state then 1 else 0
+
+-- region k of process p is In exactly while one weak move input names it, and Held exactly while one move input does; the
+-- process itself has posted that one
+pub record IsFilled (transfers : List Transfer) (p k : ℕ) (is : RegionState) : Type 0 where
+  pub one : (state : RegionState) → count_by (fills state k) transfers ≡ awaited state is
+  pub own : (state : RegionState) → All (λ (t : Transfer). fills state k t ≡ true → t.owner ≡ Some p) transfers
+
+abbrev pub BuffersAreFilled : State → Type 0
+BuffersAreFilled s = (p : ℕ) → All (λ (r : Region). IsFilled s.transfers p r.number r.state) (regions_at s p)
+
+abbrev pub is_out : RegionState → Bool
+is_out Live = false
+is_out Out = true
+is_out In = false
+is_out Held = false
+
+abbrev pub is_out_region : ℕ → Region → Bool
+is_out_region k r = is_region k r && is_out r.state
+
+-- a number stands in the weak queue as often as an Out region of the process has it
+abbrev pub ListsOut : Process → Type 0
+ListsOut p = (k : ℕ) → count_by (λ n. n == k) p.queue ≡ count_by (is_out_region k) p.regions
+
+-- so the weak queue of each process lists its Out regions, each once, since numbers differ
+abbrev pub QueuesListOut : State → Type 0
+QueuesListOut s = (p : ℕ) → IfSome (entry s.processes p) ListsOut
+
 -- all of this
 pub record IsOrderly (s : State) : Type 0 where
   pub config : Fits s.config
@@ -272,6 +328,8 @@ pub record IsOrderly (s : State) : Type 0 where
   pub posted : PostedAreInputs s
   pub matched : MatchedAreInputs s
   pub below : NumbersAreBelow s
+  pub filled : BuffersAreFilled s
+  pub weak : QueuesListOut s
   pub calls : AreTransfers s
   pub queues : OneIsSent s
   pub moving : MovingAreReceived s

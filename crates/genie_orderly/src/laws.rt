@@ -1,6 +1,6 @@
 //! What every step keeps, and what is so of every state that a run reaches.
 ghost use Rattle.std.specs.Prelude.{◌≡◌, length};
-ghost use Rattle.genie_orderly.specs.Orderly.{RegionsAreApart, WiredIsBounded, CommittedIsBounded, NumbersRise, NumbersDiffer, NumbersAreBelow, OrphansAreNamed, OrphansRise, OrphanPlacesRise, OrphansAreTidy, RangesLie, HeldForOne, PostedAreInputs, MatchedAreInputs, DevicesAreConfigs, AreTransfers, OneIsSent, MovingAreReceived, DatagramsSuit, DepthsAreKept, IsOrderly};
+ghost use Rattle.genie_orderly.specs.Orderly.{RegionsAreApart, WiredIsBounded, CommittedIsBounded, NumbersRise, NumbersDiffer, NumbersAreBelow, BuffersAreFilled, QueuesListOut, OrphansAreNamed, OrphansRise, OrphanPlacesRise, OrphansAreTidy, RangesLie, HeldForOne, PostedAreInputs, MatchedAreInputs, DevicesAreConfigs, AreTransfers, OneIsSent, MovingAreReceived, DatagramsSuit, DepthsAreKept, IsOrderly};
 ghost use Rattle.genie_orderly.specs.Steps.{Stays, StepsGrow, StepsKeepConfig, PlainStepsShowNoFault, BootIsOrderly, RunsStayOrderly};
 
 /// In a step devices keep their kinds and depths, what they have sent stays sent, and the number of the next transfer stays
@@ -65,6 +65,16 @@ pub fn numbers_differ()
 /// All of these numbers are below 577.
 pub fn numbers_are_below()
     ensures { Stays NumbersAreBelow }
+{}
+
+/// A region is In exactly while one weak move input of its process names it, and Held exactly while one move input does.
+pub fn buffers_are_filled()
+    ensures { Stays BuffersAreFilled }
+{}
+
+/// The weak queue of each process lists its Out regions, each once.
+pub fn queues_list_out()
+    ensures { Stays QueuesListOut }
 {}
 
 /// A pending weak transfer names each orphan.

@@ -1,5 +1,5 @@
 -- What a receive step leaves of the transfers and of what the devices receive.
-use Rattle.std.proofs.Common.{◌≡◌, ℕ, ◌+◌, ◌-◌, ◌<◌, ◌≤◌, Bool, true, false, List, [], ◌∷◌, ◌++◌, length, get_or, find, All, AllPairs, refl, sym, ap, subst, ◌∙◌, true≢false, eqb-true, eq-eqb, leb-true, arith}
+use Rattle.std.proofs.Common.{◌≡◌, ℕ, ◌+◌, ◌<◌, ◌≤◌, Bool, true, false, List, [], ◌++◌, length, get_or, find, All, AllPairs, refl, sym, ap, subst, ◌∙◌, true≢false, eqb-true, eq-eqb, leb-true, arith}
 use Rattle.std.specs.Prelude.{Option, Some, None, IfSome, IsTrue, take, drop, option_and_then, ⊤, ◌==◌, ◌&&◌, nat_le, slice_index, if◌then◌else◌}
 use Rattle.std.specs.Option.{option_map}
 use Rattle.std.proofs.lemmas.Bool.{cond_both, and_parts, and_from, not_from_false}
@@ -16,7 +16,7 @@ use Rattle.genie_model.specs.declared.fate.Fate.TheVariants.{Matched, Skipped, G
 use Rattle.genie_model.specs.declared.phase.Phase.TheVariants.{Moving, Ready}
 use Rattle.genie_orderly.specs.Orderly.{IsInput, GoesToInput, IsUnderWay, ReceivesForInput, has_phase, IsTransfer, WaitsBehind, matched_to, receives_for, SuitsDevice, on_its_way, KeepsDepth, IsOrderly}
 use Rattle.genie_model.specs.State.{State, Transfer, Device, Datagram}
-use Rattle.genie_model.specs.Tables.{entry, change}
+use Rattle.genie_model.specs.Tables.{entry}
 use Rattle.genie_model.specs.Pending.{is_early, is_inward, is_posted, is_queued, is_moving, is_ready, is_numbered, posted_for, awaits, pending, first_posted, has_arrived, arrived}
 use Rattle.genie_model.specs.Space.{Outcome}
 use Rattle.genie_model.specs.Sending.{change_device}
@@ -25,7 +25,8 @@ use Rattle.genie_model.specs.Lemmas.ReceiveSteps.{choice}
 use Rattle.genie_model.specs.Lemmas.Lists.{entry_set, has_at, all_has, find_has, entry_same}
 use Rattle.genie_model.specs.Lemmas.SendQueues.{same_number}
 use Rattle.genie_model.specs.Lemmas.PendingCalls.{KeepsCall, change_remain, remain_order}
-use Rattle.genie_orderly.proofs.Transfers.Changes.{all_numbered, pairs_change, count_changed, count_less}
+use Rattle.genie_orderly.proofs.Transfers.Changes.{all_numbered, pairs_change}
+use Rattle.genie_orderly.proofs.Transfers.Counts.{count_changed, count_less}
 use Rattle.genie_base.specs.declared.reply.Reply.TheVariants as reply
 
 -- what is known of a transfer later in the step that began in state s
@@ -132,7 +133,7 @@ adds_some : (b : Bool) (x y more : ℕ) → y ≤ x + (if b then more else 0) �
 adds_some true x y more a = a
 adds_some false x y more a = omega (arith, a)
 
-less_depth : (m n : ℕ) (v : Option Device) → m ≤ n → KeepsDepth n v → KeepsDepth m v
+pub less_depth : (m n : ℕ) (v : Option Device) → m ≤ n → KeepsDepth n v → KeepsDepth m v
 less_depth m n None less h = tt
 less_depth m n (Some v) less h = λ early. let fits = h early in omega (arith, less, fits)
 
@@ -246,7 +247,7 @@ moves = record { like = λ t. refl; call = λ t. refl; posted = λ t e. absurd (
     inward_moves Outward e = absurd (true≢false (sym e))
     inward_moves Inward e = refl
 
-any_ready : (direction : Direction) → IsTrue (has_phase direction Ready)
+pub any_ready : (direction : Direction) → IsTrue (has_phase direction Ready)
 any_ready Outward = refl
 any_ready Inward = refl
 

@@ -13,7 +13,7 @@ use Rattle.genie_model.specs.declared.fate.Fate.{Fate}
 use Rattle.genie_model.specs.declared.fate.Fate.TheVariants.{Matched, Skipped, Gathering}
 use Rattle.genie_model.specs.declared.phase.Phase.TheVariants.{Queued, Posted, Moving, Ready}
 use Rattle.genie_orderly.specs.Orderly.{has_phase, IsTransfer, AreTransfers, WaitsBehind, OneIsSent, receives_for, MovingAreReceived, SuitsDevice, DatagramsSuit, KeepsDepth, DepthsAreKept, PostedAreInputs, IsInput, GoesToInput, IsUnderWay, ReceivesForInput, MatchedAreInputs, IsOrderly}
-use Rattle.genie_orderly.proofs.Transfers.Changes.{count_less, count_pushed, pairs_first, pairs_without}
+use Rattle.genie_orderly.proofs.Transfers.Changes.{pairs_first, pairs_without}
 use Rattle.genie_base.specs.Lemmas.Searches.{pairs_mapped}
 use Rattle.genie_model.specs.State.{State, Region, Transfer, Device, Datagram}
 use Rattle.genie_model.specs.Tables.{entry, change, without}
@@ -27,7 +27,7 @@ use Rattle.genie_model.specs.Receiving.{recv}
 use Rattle.genie_model.specs.Ending.{without_transfer, region_of, finish_found, cancel_found}
 use Rattle.genie_model.specs.Step.{accept, perform, step}
 use Rattle.genie_model.specs.Lemmas.ReceiveSteps.{choice}
-use Rattle.genie_orderly.proofs.Inputs.ReceiveSteps.{IsKnown, received}
+use Rattle.genie_orderly.proofs.Inputs.ReceiveSteps.{IsKnown, any_ready, less_depth, received}
 use Rattle.genie_model.specs.Lemmas.Lists.{entry_set}
 use Rattle.genie_orderly.specs.Lemmas.NamingTransfers.{all_change, all_without, count_kept, count_without}
 use Rattle.genie_model.specs.Lemmas.Steps.{step_so}
@@ -39,6 +39,7 @@ use Rattle.genie_base.specs.Events.{is_whole}
 use Rattle.genie_model.specs.declared.phase.Phase.{Phase}
 use Rattle.std.proofs.lemmas.List.Quantifiers.{all_pairs_push}
 use Rattle.std.proofs.lemmas.List.Kept.{AllPairs-filter}
+use Rattle.genie_orderly.proofs.Transfers.Counts.{count_pushed, count_less}
 
 -- a transfer is an input where it is posted, or where a device may receive for it
 record IsOld (s : State) (t : Transfer) : Type 0 where
@@ -94,14 +95,6 @@ queued_outward Inward Queued h q = absurd (cc)
 queued_outward Inward Posted h q = absurd (cc)
 queued_outward Inward Moving h q = absurd (cc)
 queued_outward Inward Ready h q = absurd (cc)
-
-ready_phase : (direction : Direction) → IsTrue (has_phase direction Ready)
-ready_phase Outward = refl
-ready_phase Inward = refl
-
-less_depth : (m n : ℕ) (v : Option Device) → m ≤ n → KeepsDepth n v → KeepsDepth m v
-less_depth m n None less h = tt
-less_depth m n (Some v) less h = λ early. let fits = h early in omega (arith, less, fits)
 
 -- fewer inputs are ready at each device
 fewer_ready : (t : State) (transfers : List Transfer) → ((e : ℕ) → count_by (has_arrived e) transfers ≤ arrived t e) → DepthsAreKept t → DepthsAreKept (record t { transfers = transfers })
@@ -189,7 +182,7 @@ module _ (s : State) where
 
   sends : (k : ℕ) → IsOutward (after_sending k)
   sends k = record {
-    old = λ t old. either t (IsOld s) (λ _. record { posted = λ e. absurd (true≢false (sym e)); input = old.input; call = record { phase = ready_phase t.direction; placed = old.call.placed; stored = old.call.stored } }) (λ _. record { posted = old.posted; input = old.input; call = record { phase = old.call.phase; placed = old.call.placed; stored = old.call.stored } });
+    old = λ t old. either t (IsOld s) (λ _. record { posted = λ e. absurd (true≢false (sym e)); input = old.input; call = record { phase = any_ready t.direction; placed = old.call.placed; stored = old.call.stored } }) (λ _. record { posted = old.posted; input = old.input; call = record { phase = old.call.phase; placed = old.call.placed; stored = old.call.stored } });
     queued = λ t. either t (λ u. is_queued u.phase ≡ true → is_queued t.phase ≡ true) (λ _ q. absurd (true≢false (sym q))) (λ _ q. q);
     moving = λ t. either t (λ u. is_moving u.phase ≡ true → is_moving t.phase ≡ true) (λ _ m. absurd (true≢false (sym m))) (λ _ m. m);
     device = λ t. either t (λ u. u.device ≡ t.device) (λ _. refl) (λ _. refl);

@@ -91,7 +91,7 @@ named_lies s u Share (Some n) k h e = subst (λ j. Lies s u (Some j)) (eqb-true 
 named_lies s u Move (Some n) k h e = subst (λ j. Lies s u (Some j)) (eqb-true n k e) (inl h.1.1)
 named_lies s u WeakMove (Some n) k h e = subst (λ j. Lies s u (Some j)) (eqb-true n k e) h
 
-free_unnamed : (s : State) (transfers : List Transfer) (k : ℕ) → IsFree s k → AreFine s transfers → list_any (names k) transfers ≡ false
+pub free_unnamed : (s : State) (transfers : List Transfer) (k : ℕ) → IsFree s k → AreFine s transfers → list_any (names k) transfers ≡ false
 free_unnamed s transfers k free fine = none_from (names k) transfers (λ u has. false_from_ne_true (names k u) (λ e. free_lies s k u free (named_lies s u u.class u.region k (all_has (fine_in s) transfers fine u has) e)))
 
 -- a buffer is made

@@ -1,5 +1,5 @@
 -- What transfers name stays there where a transfer ends.
-use Rattle.std.proofs.Common.{◌≡◌, ℕ, false, refl, ◌∙◌}
+use Rattle.std.proofs.Common.{◌≡◌, ℕ, false, refl}
 use Rattle.std.specs.Prelude.{Option, Some, None}
 use Rattle.std.specs.List.{list_any}
 use Rattle.std.proofs.lemmas.Bool.{cond_both}

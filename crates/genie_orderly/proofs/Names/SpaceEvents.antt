@@ -1,5 +1,5 @@
 -- What transfers name stays there in the events on address spaces.
-use Rattle.std.proofs.Common.{◌≡◌, ℕ, ◌+◌, ◌*◌, ◌<◌, ◌≤◌, Bool, false, ◌&&◌, ◌==◌, List, [], ◌∷◌, ◌++◌, length, map, refl, ap, arith}
+use Rattle.std.proofs.Common.{◌≡◌, ℕ, ◌+◌, ◌<◌, ◌≤◌, Bool, false, ◌==◌, List, [], ◌∷◌, ◌++◌, length, map, refl, ap, arith}
 use Rattle.std.specs.Prelude.{Some, None}
 use Rattle.std.specs.List.{list_any}
 use Rattle.std.proofs.lemmas.Bool.{cond_both, or_parts}
@@ -59,7 +59,7 @@ none_changed k f (r ∷ rs) e =
     let first : (r.number == k) ≡ false = both.0 in
     rw first (ap (λ l. r ∷ l) (none_changed k f rs both.1))
 
-moved_out_regions : (k : ℕ) (p : Process) → (moved_out_of k p).regions ≡ map (changed k (with_state Out)) p.regions
+pub moved_out_regions : (k : ℕ) (p : Process) → (moved_out_of k p).regions ≡ map (changed k (with_state Out)) p.regions
 moved_out_regions k p = cond_both (has_number k (Some p)) (record { queue = p.queue ++ k ∷ []; regions = map (changed k (with_state Out)) p.regions }) p (λ (q : Process). q.regions ≡ map (changed k (with_state Out)) p.regions)
     (λ _. refl) (none_changed k (with_state Out) p.regions)
 

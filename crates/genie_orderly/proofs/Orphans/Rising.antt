@@ -1,6 +1,6 @@
 -- Orphans stand in the order of their numbers after every step, and the places of each one rise.
 use Rattle.std.proofs.Common.{◌≡◌, ◌≢◌, ℕ, zero, suc, ◌+◌, ◌<◌, ◌≤◌, ltb-true, ltb-false, flat_map, List, [], ◌∷◌, map, filter, get_or, All, AllPairs, refl, arith}
-use Rattle.std.specs.Prelude.{nat_lt, ◌-◌, ◌==◌}
+use Rattle.std.specs.Prelude.{nat_lt, ◌==◌}
 use Rattle.std.specs.List.{list_any}
 use Rattle.std.proofs.lemmas.Bool.{cond_both}
 use Rattle.std.proofs.lemmas.List.Elements.{All-cons, All-head, All-tail, All-map, All-filter, All-weaker}

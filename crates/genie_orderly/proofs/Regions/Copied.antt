@@ -1,5 +1,5 @@
 -- How many regions are copied.
-use Rattle.std.proofs.Common.{◌≡◌, ℕ, ◌+◌, ◌<◌, ◌≤◌, [], ◌∷◌, length, ◌∙◌, arith, Bool}
+use Rattle.std.proofs.Common.{ℕ, ◌≤◌, length, arith, Bool}
 use Rattle.std.specs.Prelude.{Option}
 use Rattle.std.proofs.lemmas.List.Sums.{length-filter, count_by-le-length}
 use Rattle.genie_base.specs.Regions.{is_accessible}

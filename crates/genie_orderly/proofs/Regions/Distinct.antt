@@ -1,5 +1,5 @@
 -- No two regions or orphans have the same number after a step, and none has one of 577 or more.
-use Rattle.std.proofs.Common.{◌≡◌, ℕ, ◌<◌, ◌≤◌, Bool, true, false, nat_lt, All, length, refl, sym, ap, subst, ⊎_elim, lt-ltb, le-ltb, arith}
+use Rattle.std.proofs.Common.{◌≡◌, ℕ, ◌≤◌, Bool, true, false, nat_lt, length, refl, sym, ap, subst, ⊎_elim, lt-ltb, le-ltb, arith}
 use Rattle.std.specs.Prelude.{Option, Some, None}
 use Rattle.std.proofs.lemmas.Bool.{cases_lt}
 use Rattle.genie_base.specs.declared.reply.Mark.{Mark}

@@ -1,6 +1,6 @@
 -- Every state that a run reaches is orderly.
 use Rattle.std.proofs.Common.{◌≡◌, ℕ, zero, suc, ◌+◌, List, [], ◌∷◌, refl, sym, arith}
-use Rattle.std.specs.Prelude.{Option, Some, None, IfSome, IsTrue, All}
+use Rattle.std.specs.Prelude.{Option, Some, None, IfSome, IsTrue, All, replicate}
 use Rattle.std.specs.Option.{option_map}
 use Rattle.std.proofs.lemmas.List.Elements.{All-head, All-tail, All-replicate}
 use Rattle.genie_base.specs.Configs.{Config, DeviceConfig, Fits}
@@ -9,11 +9,14 @@ use Rattle.genie_base.specs.declared.event.Event.{Event}
 use Rattle.genie_base.specs.declared.reply.Mark.{Mark}
 use Rattle.genie_base.specs.declared.reply.Reply.{Reply}
 use Rattle.genie_orderly.specs.Steps.{RunsStayOrderly}
-use Rattle.genie_orderly.specs.Orderly.{IsOrderly, AreApart, shape_of, ReceivesForInput, SuitsDevice, KeepsDepth}
+use Rattle.genie_orderly.specs.Orderly.{IsOrderly, AreApart, shape_of, ReceivesForInput, SuitsDevice, KeepsDepth, IsFilled, ListsOut}
 use Rattle.genie_model.specs.Regions.{regions_of}
-use Rattle.genie_model.specs.State.{State, Process, Device, boot, boot_devices}
+use Rattle.genie_model.specs.Lemmas.Lists.{at_entry}
+use Rattle.genie_model.specs.State.{State, Region, Process, Device, boot, boot_devices}
 use Rattle.genie_model.specs.Tables.{entry}
 use Rattle.genie_model.specs.Step.{step, Follows}
+use Rattle.genie_orderly.proofs.Regions.Filled.{buffers_are_filled}
+use Rattle.genie_orderly.proofs.Regions.Queues.{queues_list_out}
 use Rattle.genie_orderly.proofs.Regions.Distinct.{numbers_differ, numbers_are_below}
 use Rattle.genie_orderly.specs.Lemmas.Growth.{devices_are_configs}
 use Rattle.genie_orderly.proofs.Names.Steps.{held_for_one}
@@ -71,6 +74,8 @@ boot_is_orderly c inputs fits = record {
   posted = λ k d l. absurd (omega arith);
   matched = λ d. boot_matched (boot c inputs) inputs 0 c.devices d d;
   below = λ k d l. absurd (omega arith);
+  filled = λ p. at_entry (λ (x : Option Process). All (λ (r : Region). IsFilled [] p r.number r.state) (regions_of x)) (replicate 16 None) p (λ k d l. absurd (omega arith)) (All-replicate (λ (x : Option Process). All (λ (r : Region). IsFilled [] p r.number r.state) (regions_of x)) 16 None (λ k d l. absurd (omega arith)));
+  weak = λ p. at_entry (λ (x : Option Process). IfSome x ListsOut) (replicate 16 None) p tt (All-replicate (λ (x : Option Process). IfSome x ListsOut) 16 None tt);
   calls = λ k d l. absurd (omega arith);
   queues = λ i j d l m. absurd (omega arith);
   moving = λ k d l. absurd (omega arith);
@@ -99,6 +104,8 @@ step_is_orderly s e m whole o =
       posted = posted_are_inputs s e m whole o;
       matched = matched_are_inputs s e m whole o;
       below = numbers_are_below s e m whole o;
+      filled = buffers_are_filled s e m whole o;
+      weak = queues_list_out s e m whole o;
       calls = calls_stay s e m whole o;
       queues = one_is_sent s e m whole o;
       moving = moving_are_received s e m whole o;

@@ -1,6 +1,6 @@
 -- What a change of the first transfer that passes a test leaves: of all, of pairs, and how many pass another test.
-use Rattle.std.proofs.Common.{◌≡◌, ℕ, ◌+◌, ◌<◌, ◌≤◌, Bool, true, false, List, [], ◌∷◌, ◌++◌, All, AllPairs, refl, ◌∙◌, arith, ne_eqb, eqb-true}
-use Rattle.std.specs.Prelude.{count_by, cond, ◌==◌}
+use Rattle.std.proofs.Common.{◌≡◌, ℕ, ◌<◌, Bool, true, false, List, [], ◌∷◌, All, AllPairs, arith, ne_eqb, eqb-true}
+use Rattle.std.specs.Prelude.{◌==◌}
 use Rattle.std.proofs.lemmas.Bool.{cond_both}
 use Rattle.std.proofs.lemmas.List.Elements.{All-cons, All-head, All-tail, All-weaker}
 use Rattle.std.proofs.lemmas.List.Kept.{AllPairs-cons}
@@ -8,7 +8,7 @@ use Rattle.genie_model.specs.State.{Transfer}
 use Rattle.genie_model.specs.Tables.{change, without}
 use Rattle.genie_model.specs.Pending.{is_numbered}
 use Rattle.genie_model.specs.Lemmas.Lists.{pairs_all, pairs_tail}
-use Rattle.genie_orderly.specs.Lemmas.NamingTransfers.{all_change, all_without, count-cons}
+use Rattle.genie_orderly.specs.Lemmas.NamingTransfers.{all_change, all_without}
 
 -- transfers in the order of their numbers: the one of this number is changed, and no other one
 pub all_numbered : (k : ℕ) (f : Transfer → Transfer) (P Q : Transfer → Type 0) → ((t : Transfer) → (t.number == k) ≡ true → P t → Q (f t)) → ((t : Transfer) → (t.number == k) ≡ false → P t → Q t)
@@ -22,14 +22,6 @@ all_numbered k f P Q here beside (t ∷ ts) order h =
     cond_both (t.number == k) (f t ∷ ts) (t ∷ change (is_numbered k) f ts) (All Q)
     (λ y. All-cons Q (f t) ts (here t y first) (λ i d lt. beside _ (ne_eqb _ k (λ same. let less = later i d lt in omega (arith, less, same, eqb-true t.number k y))) (rest i d lt)))
     (λ n. All-cons Q t (change (is_numbered k) f ts) (beside t n first) (all_numbered k f P Q here beside ts (pairs_tail Less t ts order) rest))
-
-as_count : (b : Bool) → cond b 1 0 ≤ 1
-as_count true = omega arith
-as_count false = omega arith
-
-no_more : (a b : Bool) → (a ≡ true → b ≡ true) → cond a 1 0 ≤ cond b 1 0
-no_more true b h = rw (h refl) (omega arith)
-no_more false b h = omega arith
 
 module _ {X : Type 0} where
   -- what passes the test is changed so
@@ -59,20 +51,3 @@ module _ {X : Type 0} where
       let rest : AllPairs R xs = pairs_tail R x xs h in
       cond_both (p x) (f x ∷ xs) (x ∷ change p f xs) (AllPairs R) (λ _. AllPairs-cons R (f x) xs (All-weaker (R x) (R (f x)) (λ y r. left x y r) xs here) rest)
       (λ _. AllPairs-cons R x (change p f xs) (all_change (R x) p f (λ y r. right x y r) xs here) (pairs_change R p f left right xs rest))
-
-  pub count_changed : (q p : X → Bool) (f : X → X) (xs : List X) → count_by q (change p f xs) ≤ count_by q xs + 1
-  count_changed q p f [] = omega arith
-  count_changed q p f (x ∷ xs) = cond_both (p x) (f x ∷ xs) (x ∷ change p f xs) (λ ys. count_by q ys ≤ count_by q (x ∷ xs) + 1)
-      (λ _. omega (arith, count-cons q x xs, count-cons q (f x) xs, as_count (q (f x))))
-      (λ _. omega (arith, count-cons q x xs, count-cons q x (change p f xs), count_changed q p f xs))
-
-  pub count_pushed : (q : X → Bool) (xs : List X) (x : X) → q x ≡ false → count_by q (xs ++ x ∷ []) ≡ count_by q xs
-  count_pushed q [] x n = count-cons q x [] ∙ rw n refl
-  count_pushed q (y ∷ xs) x n = omega (arith, count-cons q y xs, count-cons q y (xs ++ x ∷ []), count_pushed q xs x n)
-
-  -- where no element comes to pass that didn't
-  pub count_less : (P : X → Type 0) (q p : X → Bool) (f : X → X) → ((x : X) → P x → p x ≡ true → q (f x) ≡ true → q x ≡ true) → (xs : List X) → All P xs → count_by q (change p f xs) ≤ count_by q xs
-  count_less P q p f less [] h = omega arith
-  count_less P q p f less (x ∷ xs) h = cond_both (p x) (f x ∷ xs) (x ∷ change p f xs) (λ ys. count_by q ys ≤ count_by q (x ∷ xs))
-      (λ y. omega (arith, count-cons q x xs, count-cons q (f x) xs, no_more (q (f x)) (q x) (less x (All-head P x xs h) y)))
-      (λ _. omega (arith, count-cons q x xs, count-cons q x (change p f xs), count_less P q p f less xs (All-tail P x xs h)))

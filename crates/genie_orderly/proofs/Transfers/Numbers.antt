@@ -1,5 +1,4 @@
 -- The numbers of the pending transfers.
-use Rattle.std.proofs.Common.{◌+◌, ◌<◌, [], ◌∷◌}
 use Rattle.genie_orderly.specs.Orderly.{NumbersRise}
 use Rattle.genie_orderly.specs.Steps.{Stays}
 use Rattle.genie_orderly.specs.Lemmas.KeptCalls.{call_of, steps_keep}

@@ -1,5 +1,5 @@
 -- The regions that calls reach and that the ends of inputs change.
-use Rattle.std.proofs.Common.{◌≡◌, ℕ, ◌+◌, ◌*◌, ◌<◌, ◌≤◌, true, ◌&&◌, ◌==◌, List, [], ◌∷◌, ◌++◌, length, map, All, refl, leb-true, add-mul, arith, get_or, replicate, ◌∙◌}
+use Rattle.std.proofs.Common.{◌≡◌, ℕ, ◌+◌, ◌*◌, ◌≤◌, true, ◌&&◌, List, length, map, All, refl, leb-true, add-mul, arith, get_or, replicate, ◌∙◌}
 use Rattle.std.specs.Prelude.{Option, Some, nat_le, nat_lt}
 use Rattle.std.proofs.lemmas.Bool.{and_parts}
 use Rattle.genie_base.specs.Regions.{is_accessible, is_reached, contains_range}
@@ -8,7 +8,6 @@ use Rattle.genie_base.specs.declared.region.RegionState.TheVariants.{Live}
 use Rattle.genie_model.specs.State.{State, Region, Process}
 use Rattle.genie_model.specs.Tables.{entry}
 use Rattle.genie_model.specs.Regions.{extent_of, regions_of, regions_at, reach_of, place_in, change_process, changed, changed_in, change_region, with_state}
-use Rattle.genie_model.specs.Space.{accessible}
 use Rattle.genie_orderly.specs.Orderly.{IsRegion, AreApart, RegionsAreApart}
 use Rattle.genie_model.specs.Lemmas.Lists.{Has, all_has, find_has, at_entry}
 use Rattle.genie_orderly.specs.Lemmas.FoundRegions.{all_of, has_region}
