@@ -1,8 +1,8 @@
 //! Worked values that no clause says.
 
 use crate::{
-    Class, Config, DeviceConfig, Direction, Event, Kind, Mark, PageBuffer, PageBytes, PageSize, Refusal, Reply,
-    Semantics, cost, overlay, part, span,
+    Class, Config, DeviceConfig, Direction, Event, Kind, Mark, PageBuffer, PageBytes, PageSize,
+    Refusal, Reply, Semantics, cost, overlay, part, span,
 };
 
 fn config(devices: [Option<DeviceConfig>; 8]) -> Config {

@@ -1,15 +1,13 @@
 -- Bytes copied between a frame and a page.
-use Rattle.std.proofs.Common.{inl, inr, ◌≡◌, ◌≢◌, ℕ, zero, suc, ◌+◌, ◌-◌, ◌<◌, ◌≤◌, true, false, List, [], ◌∷◌, length, take, drop, refl, ap, sym, ◌∙◌, arith, subst, get_or, length-drop}
+use Rattle.std.proofs.Common.{inl, inr, ◌≡◌, ◌≢◌, ℕ, zero, suc, ◌+◌, ◌-◌, ◌<◌, ◌≤◌, Bool, true, false, List, [], ◌∷◌, length, take, drop, refl, ap, sym, ◌∙◌, arith, subst, get_or, length-drop}
 use Rattle.std.specs.Prelude.{Option, Some, None}
 use Rattle.std.proofs.lemmas.List.{get_or-set_same, get_or-set_other, set-set, take_all}
 use Rattle.genie_base.specs.Bytes.{overlaid, part}
 use Rattle.genie_base.specs.Lemmas.Overlaid.{overlaid-nothing, length-overlaid}
-use Rattle.genie_base.specs.Lemmas.Places.{past_end}
-use Rattle.std.proofs.lemmas.Bool.{cases_lt}
 use Rattle.genie_frame.specs.declared.frame.FrameId.{FrameId}
 use Rattle.genie_frame.specs.declared.frame.Owner.{Owner}
 use Rattle.genie_frame.specs.declared.frame.Owner.TheVariants.{Free, Page, System, Pool, Nobody}
-use Rattle.genie_frame.specs.FrameTable.{FrameTable, owner_at, bytes_at, set_bytes, is_system, is_page}
+use Rattle.genie_frame.specs.FrameTable.{FrameTable, owner_at, counts_at, bytes_at, no_counts, set_bytes, is_system, is_page, is_lent}
 use Rattle.genie_frame.specs.Frames.{stored, more_copied}
 use Rattle.genie_object.specs.declared.pages.PageId.{PageId}
 use Rattle.genie_object.specs.declared.pages.PageInfo.{PageInfo}
@@ -17,10 +15,13 @@ use Rattle.genie_object.specs.declared.pages.Place.{Place}
 use Rattle.genie_object.specs.declared.pages.Place.TheVariants.{Zero, Frame, Slot}
 use Rattle.genie_object.specs.declared.memory.Memory.{Memory}
 use Rattle.genie_object.specs.Pages.{page_at}
-use Rattle.genie_object.specs.Objects.{entry_at}
+use Rattle.genie_object.specs.declared.objects.Entry.{Entry}
+use Rattle.genie_object.specs.Objects.{entry_at, names}
 use Rattle.genie_object.specs.Memory.{seen, see_entry, see_kept, entry_frame, frame_of, frame_in}
 use Rattle.genie_object.specs.Sound.{IsSound, IsFramed, IsPrivate, strong_at}
 use Rattle.genie_object.specs.Keeping.{IsReady}
+use Rattle.genie_object.specs.Touching.{KeepsLoans, Touches}
+use Rattle.genie_object.specs.Lemmas.Lookup.{in_range}
 use Rattle.genie_object.specs.Lemmas.Showing.{shows_stored, seen_landed, keeps_sound}
 
 -- the bytes of one list around those of another
@@ -42,9 +43,6 @@ around (suc off) n zero b p s e h = absurd (omega arith)
 around (suc off) n (suc past) [] p s e h = absurd (omega arith)
 around (suc off) n (suc past) (x ∷ b) [] s e h = absurd (omega arith)
 around (suc off) n (suc past) (x ∷ b) (y ∷ p) s e h = ap (λ l. y ∷ l) (around off n past b p (omega arith) (omega arith) (omega arith))
-
-in_range : {X : Type 0} (xs : List X) (k : ℕ) (d : X) → get_or xs k d ≢ d → k < length xs
-in_range xs k d h = elim (cases_lt k (length xs)) [ inl l ↦ l | inr l ↦ absurd (h (past_end xs k d l)) ]
 
 -- where an entry's page is
 pub record PageIn (m : Memory) (o i : ℕ) (f : FrameId) : Type 0 where
@@ -94,7 +92,33 @@ same_frame x f g a b = let two : Some f ≡ Some g = sym a ∙ b in cc
 pub metered_sound : (m : Memory) (t : FrameTable) (n : ℕ) → IsSound (record m { frames = t }) → IsSound (record m { frames = more_copied t n })
 metered_sound m t n s = record { shaped = s.shaped; placed = s.placed; lent = s.lent; held = s.held; wired = s.wired; slotted = s.slotted; shared = s.shared; guarded = s.guarded }
 
+-- pages, entries and counts of loans are as before
+pub touches_same : (spoken : ℕ → ℕ → Bool) (old new : Memory) → new.pages.pages ≡ old.pages.pages → new.objects ≡ old.objects → new.frames.counts ≡ old.frames.counts → Touches spoken old new
+touches_same spoken old new p o c = record {
+  entries = λ a b h. let e = ap (λ os. entry_at os a b) o in record { page = ap (λ (t : Entry). t.page) e; readable = λ w. ap (λ (t : Entry). t.readable) (sym e) ∙ w; writable = λ w. ap (λ (t : Entry). t.writable) (sym e) ∙ w };
+  pages = λ q y. ap (λ ps. page_at ps q) p;
+  outside = λ q y. record { there = subst (λ (ps : List PageInfo). 0 < (page_at ps q).shares) (sym p) y.there; named = λ a b h. y.named a b (ap (λ os. names q (entry_at os a b)) (sym o) ∙ h) };
+  counts = λ q f y e. ap (λ cs. get_or cs f.0 no_counts) c;
+}
+
+-- other bytes in a frame that isn't lent
+pub keeps_copied : (m : Memory) (t : FrameTable) (f : ℕ) (bytes : List ℕ) (n : ℕ) → t ≡ more_copied (set_bytes m.frames f bytes) n → is_lent (counts_at m.frames f) ≡ false → KeepsLoans m (record m { frames = t })
+keeps_copied m t f bytes n e l = subst (λ u. KeepsLoans m (record m { frames = u })) (sym e) (record {
+  entry_held = λ a b g h k. h;
+  held = λ g h. h;
+  lent = λ g h. record { lent = h; bytes = get_or-set_other m.frames.bytes f g bytes [] (λ s. let bad : true ≡ false = sym h ∙ ap (λ k. is_lent (counts_at m.frames k)) s ∙ l in cc); owner = inl refl };
+  systems = λ g. refl;
+  entries = λ o. refl;
+  number = refl;
+  page = refl;
+  slots = refl;
+  most = refl;
+})
+
 -- bytes that were stored in an entry's own page
+pub out_keeps : (m : Memory) (new : FrameTable) (o i own f x n : ℕ) (bytes : List ℕ) → entry_frame m o i ≡ Some own → new ≡ more_copied (stored m.frames own x bytes) n → entry_frame m o i ≡ Some f → is_lent (counts_at m.frames f) ≡ false → KeepsLoans m (record m { frames = new })
+out_keeps m new o i own f x n bytes at e is l = keeps_copied m new own (overlaid x bytes (bytes_at m.frames own)) n e (ap (λ g. is_lent (counts_at m.frames g)) (same_frame (entry_frame m o i) own f at is) ∙ l)
+
 pub out_sound : (m : Memory) (new : FrameTable) (f x n : ℕ) (bytes : List ℕ) → IsSound m → f < length m.frames.owners → new ≡ more_copied (stored m.frames f x bytes) n → IsSound (record m { frames = new })
 out_sound m new f x n bytes s l e = subst (λ t. IsSound (record m { frames = t })) (sym e) (metered_sound m (stored m.frames f x bytes) n (keeps_sound m f x bytes s l))
 
@@ -173,3 +197,6 @@ module _ (m : Memory) (o i : ℕ) (own : FrameId) (g off n past page : ℕ) (s :
 
   pub around_bytes : (slots : ℕ → List ℕ) → bytes_at u g ≡ overlaid off (part off n b) ((seen m slots).entry_bytes o i)
   around_bytes slots = ap (λ x. bytes_at x g) around_frames ∙ get_or-set_same m.frames.bytes g new [] filled ∙ ap (λ xs. overlaid off (part off n b) xs) (sym (page_shown m slots o i own in_page))
+
+  pub around_keeps : is_lent (counts_at m.frames g) ≡ false → KeepsLoans m (record m { frames = u })
+  around_keeps l = keeps_copied m u g new (m.frames.page - n) around_frames l

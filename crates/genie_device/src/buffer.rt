@@ -3,10 +3,9 @@ ghost use Rattle.std.specs.Prelude.{◌≡◌, ◌+◌, ◌<◌, ◌≤◌, [], 
 ghost use Rattle.genie_host.specs.Host.{Reading};
 ghost use Rattle.genie_device.specs.Buffers.{Free, free_buffer, Filling, Arrived, is_free, is_filling, is_arrived, bytes_in, Fills};
 
-use crate::memory::Memory;
 use crate::receive::receive;
 use crate::steps::BodyStep;
-use genie_base::NoMemory;
+use genie_base::{FixedBytes, NoMemory};
 use genie_host::Host;
 use std::alloc::Global;
 use std::marker::Model;
@@ -26,7 +25,7 @@ pub enum Usage {
 pub struct Buffer {
     usage: Usage,
     len: u32,
-    memory: Memory,
+    memory: FixedBytes,
 }
 
 impl Model for Buffer {
@@ -35,9 +34,9 @@ impl Model for Buffer {
 
     ghost Value = { BufferView };
 
-    ghost view = { λ b. record { room = length b.memory.bytes.items; state = state_of b.usage (take b.len b.memory.bytes.items) } };
+    ghost view = { λ b. record { room = length b.memory; state = state_of b.usage (take b.len b.memory) } };
 
-    ghost invariant = { λ b. (b.len ≤ length b.memory.bytes.items) × (length b.memory.bytes.items < 2 ^ 32) };
+    ghost invariant = { λ b. (b.len ≤ length b.memory) × (length b.memory < 2 ^ 32) };
 }
 
 impl Buffer {
@@ -48,7 +47,7 @@ impl Buffer {
         Ok(Buffer {
             usage: Usage::Free,
             len: 0,
-            memory: Memory::zeros(alloc, room as usize)?,
+            memory: FixedBytes::zeros(alloc, room as usize)?,
         })
     }
 
@@ -120,6 +119,6 @@ impl Buffer {
         requires { is_arrived self.now.state ≡ true }
         ensures { result.now ≡ bytes_in self.now.state }
     {
-        self.memory.front(self.len as usize)
+        self.memory.run(0, self.len as usize)
     }
 }

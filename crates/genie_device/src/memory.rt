@@ -1,36 +1,11 @@
-//! Memory of a device's own.
-ghost use Rattle.std.specs.Prelude.{◌≡◌, ◌≤◌, ⊤, length, replicate, take, IfOk};
+//! Memory of a device's own as a place for payload bytes.
+ghost use Rattle.std.specs.Prelude.{⊤};
 
 use crate::landing::Landing;
-use genie_base::{NoMemory, overlay};
-use std::alloc::Global;
+use genie_base::FixedBytes;
 
-/// A place in a device for so many bytes.
-#[derive(Drop)]
-pub struct Memory {
-    pub bytes: Vec<u8>,
-}
-
-impl Memory {
-    pub fn zeros(alloc: Global, room: usize) -> Result<Memory, NoMemory>
-        ensures { IfOk result (λ memory. memory.bytes.items ≡ replicate room 0) }
-    {
-        Ok(Memory {
-            bytes: vec![in alloc; 0; room]?,
-        })
-    }
-
-    /// Lends the first `n` bytes.
-    pub fn front(&self, n: usize) -> &[u8]
-        requires { n ≤ length self.now.bytes.items }
-        ensures { result.now ≡ take n self.now.bytes.items }
-    {
-        &self.bytes[..n]
-    }
-}
-
-impl Landing for Memory {
-    ghost content = { λ m. m.bytes.items };
+impl Landing for FixedBytes {
+    ghost content = { λ bytes. bytes };
 
     ghost count = { λ _. 0 };
 
@@ -39,7 +14,7 @@ impl Landing for Memory {
     ghost kept = { λ _ _. ⊤ };
 
     fn land(&mut self, at: u32, bytes: &[u8]) {
-        overlay(&mut self.bytes, at as usize, bytes);
+        self.store(at as usize, bytes);
     }
 
     ghost reflexive = { λ _. tt };

@@ -31,7 +31,7 @@ impl Machine {
     }
 
     // A copy input's bytes are stored where a write of its range reaches.
-    fn finish_copy(&mut self, pid: u32, transfer: &Transfer) -> Reply
+    fn finish_copy(&mut self, pid: u32, transfer: &Transfer) -> Reply<'static>
         ensures { finish_copy self.old transfer.now (write_reach_of self.old pid (address_or_zero transfer.now.addr) transfer.now.len) ≡ (self.new, result) }
     {
         let addr = transfer.address_or_zero();
@@ -45,7 +45,7 @@ impl Machine {
     }
 
     // A move input's region is live with its bytes.
-    fn finish_move(&mut self, transfer: &Transfer) -> Reply
+    fn finish_move(&mut self, transfer: &Transfer) -> Reply<'static>
         ensures { finish_move self.old transfer.now (region_of self.old transfer.now) ≡ (self.new, result) }
     {
         let Some(region) = self.region_of(transfer) else {
@@ -67,7 +67,7 @@ impl Machine {
     }
 
     // A share input's region has its bytes.
-    fn finish_share(&mut self, transfer: &Transfer) -> Reply
+    fn finish_share(&mut self, transfer: &Transfer) -> Reply<'static>
         ensures { finish_share self.old transfer.now (region_of self.old transfer.now) ≡ (self.new, result) }
     {
         let Some(region) = self.region_of(transfer) else {
@@ -79,7 +79,7 @@ impl Machine {
     }
 
     // A weak move input's region is live.
-    fn finish_weak_move(&mut self, transfer: &Transfer) -> Reply
+    fn finish_weak_move(&mut self, transfer: &Transfer) -> Reply<'static>
         ensures { finish_weak_move self.old transfer.now (region_of self.old transfer.now) ≡ (self.new, result) }
     {
         let Some(region) = self.region_of(transfer) else {
@@ -92,7 +92,7 @@ impl Machine {
         transfer.arrived(Some(addr))
     }
 
-    fn finish_input(&mut self, pid: u32, transfer: &Transfer) -> Reply
+    fn finish_input(&mut self, pid: u32, transfer: &Transfer) -> Reply<'static>
         ensures { finish_input self.old pid transfer.now transfer.now.class ≡ (self.new, result) }
     {
         match transfer.class() {
@@ -103,7 +103,7 @@ impl Machine {
         }
     }
 
-    fn finish_owned(&mut self, pid: u32, transfer: &Transfer) -> Reply
+    fn finish_owned(&mut self, pid: u32, transfer: &Transfer) -> Reply<'static>
         ensures { finish_owned self.old pid transfer.now transfer.now.direction ≡ (self.new, result) }
     {
         match transfer.direction() {
@@ -112,7 +112,7 @@ impl Machine {
         }
     }
 
-    fn finish_for(&mut self, transfer: &Transfer) -> Reply
+    fn finish_for(&mut self, transfer: &Transfer) -> Reply<'static>
         ensures { finish_for self.old transfer.now transfer.now.owner ≡ (self.new, result) }
     {
         match transfer.owner() {
@@ -130,7 +130,7 @@ impl Machine {
     }
 
     // Ends a transfer.
-    pub(crate) fn finish(&mut self, id: u32) -> Reply
+    pub(crate) fn finish(&mut self, id: u32) -> Reply<'static>
         requires { IsSome (pending self.old id) }
         ensures { finish self.old id ≡ (self.new, result) }
     {

@@ -12,7 +12,7 @@ use crate::device::Device;
 use crate::machine::Machine;
 use crate::process::Process;
 use crate::table;
-use genie_base::{Config, DeviceConfig, Event, Mark, NoMemory, PageSize, Reply};
+use genie_base::{Config, DeviceConfig, Event, Mark, NoMemory, PageBuffer, PageSize, Reply};
 use std::alloc::Global;
 use std::marker::Model;
 
@@ -99,7 +99,12 @@ impl Flat {
     }
 
     /// One step of the flat machine, with the reply. It serves every event. After `NoMemory` it answers `NoMemory` for good.
-    pub fn step(&mut self, event: &Event, mark: &Mark) -> Result<Reply, NoMemory>
+    pub fn step<'a>(
+        &mut self,
+        event: &Event,
+        mark: &Mark,
+        into: &'a mut PageBuffer,
+    ) -> Result<Reply<'a>, NoMemory>
         requires whole { IsTrue (is_whole event.now) }
         requires numbered { IfSome self.old HasNumber }
         ensures { Steps self.old event.now mark.now self.new result }
@@ -107,7 +112,7 @@ impl Flat {
         if self.failed {
             return Err(NoMemory);
         }
-        let result = self.machine.step(event, mark);
+        let result = self.machine.step(event, mark, into);
         self.failed = result.is_err();
         result
     }

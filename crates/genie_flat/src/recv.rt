@@ -50,7 +50,7 @@ fn payload_taken(left: u32, v: &Device, g: &Datagram) -> u32
 }
 
 // The reply to a step that moved header bytes alone.
-fn header_reply(h: u32) -> Reply
+fn header_reply(h: u32) -> Reply<'static>
     ensures { result ≡ header_reply h }
 {
     if h == 0 {
@@ -96,7 +96,7 @@ impl Machine {
         g: &Datagram,
         truncated: bool,
         k: u32,
-    ) -> Result<Reply, NoMemory>
+    ) -> Result<Reply<'static>, NoMemory>
         ensures { IfOk result (λ reply. deliver self.old g.now truncated k (first_posted self.old dev g.now.port g.now.flow) ≡ (self.new, reply)) }
     {
         let len = g.len();
@@ -124,7 +124,7 @@ impl Machine {
         g: &Datagram,
         truncated: bool,
         k: u32,
-    ) -> Result<Reply, NoMemory>
+    ) -> Result<Reply<'static>, NoMemory>
         ensures { IfOk result (λ reply. complete self.old dev g.now truncated k g.now.fate ≡ (self.new, reply)) }
     {
         match g.fate() {
@@ -139,7 +139,13 @@ impl Machine {
     }
 
     // The datagram completes, or is there still.
-    fn go_on(&mut self, dev: u32, v: Device, g: Datagram, k: u32) -> Result<Reply, NoMemory>
+    fn go_on(
+        &mut self,
+        dev: u32,
+        v: Device,
+        g: Datagram,
+        k: u32,
+    ) -> Result<Reply<'static>, NoMemory>
         ensures { IfOk result (λ reply. go_on self.old dev v g k ≡ (self.new, reply)) }
     {
         let mut v = v;
@@ -194,7 +200,7 @@ impl Machine {
         g: Datagram,
         h: u32,
         b: u32,
-    ) -> Result<Reply, NoMemory>
+    ) -> Result<Reply<'static>, NoMemory>
         requires count { h + b < 2 ^ 32 }
         requires moved { g.moved + b < 2 ^ 32 }
         ensures { IfOk result (λ reply. take_payload self.old dev v g h b ≡ (self.new, reply)) }
@@ -215,7 +221,7 @@ impl Machine {
         v: Device,
         g: Datagram,
         h: u32,
-    ) -> Result<Reply, NoMemory>
+    ) -> Result<Reply<'static>, NoMemory>
         requires { h + left < 2 ^ 32 }
         ensures { IfOk result (λ reply. receive_payload self.old dev left v g h ≡ (self.new, reply)) }
     {
@@ -233,7 +239,7 @@ impl Machine {
         v: Device,
         header: &[u8],
         h: u32,
-    ) -> Result<Reply, NoMemory>
+    ) -> Result<Reply<'static>, NoMemory>
         requires count { h + left < 2 ^ 32 }
         requires whole { 8 ≤ length header.now }
         requires flow { slice_index header.now 1 ≡ 69 → 12 ≤ length header.now }
@@ -264,7 +270,7 @@ impl Machine {
         v: Device,
         header: &[u8],
         h: u32,
-    ) -> Result<Reply, NoMemory>
+    ) -> Result<Reply<'static>, NoMemory>
         requires count { h + left < 2 ^ 32 }
         requires whole { 8 ≤ length header.now }
         requires flow { slice_index header.now 1 ≡ 69 → 12 ≤ length header.now }
@@ -292,7 +298,7 @@ impl Machine {
         v: Device,
         header: &[u8],
         h: u32,
-    ) -> Result<Reply, NoMemory>
+    ) -> Result<Reply<'static>, NoMemory>
         requires count { h + left < 2 ^ 32 }
         requires whole { 8 ≤ length header.now }
         requires flow { slice_index header.now 0 ≡ 71 → slice_index header.now 1 ≡ 69 → 12 ≤ length header.now }
@@ -310,7 +316,13 @@ impl Machine {
     }
 
     // The next `h` bytes belong to the header.
-    fn take_header(&mut self, dev: u32, n: u32, v: Device, h: u32) -> Result<Reply, NoMemory>
+    fn take_header(
+        &mut self,
+        dev: u32,
+        n: u32,
+        v: Device,
+        h: u32,
+    ) -> Result<Reply<'static>, NoMemory>
         requires { h ≤ n }
         ensures { IfOk result (λ reply. take_header self.old dev n v h ≡ (self.new, reply)) }
     {
@@ -326,7 +338,7 @@ impl Machine {
     }
 
     // A step of a device that isn't bad or busy.
-    fn receive_record(&mut self, dev: u32, n: u32, v: Device) -> Result<Reply, NoMemory>
+    fn receive_record(&mut self, dev: u32, n: u32, v: Device) -> Result<Reply<'static>, NoMemory>
         ensures { IfOk result (λ reply. receive_record self.old dev n v v.present ≡ (self.new, reply)) }
     {
         if let Some(g) = v.present_copy(self.alloc)? {
@@ -347,7 +359,7 @@ impl Machine {
     }
 
     // A receive step of a device.
-    fn receive(&mut self, dev: u32, n: u32, v: Device) -> Result<Reply, NoMemory>
+    fn receive(&mut self, dev: u32, n: u32, v: Device) -> Result<Reply<'static>, NoMemory>
         ensures { IfOk result (λ reply. receive self.old dev n (Some v) ≡ (self.new, reply)) }
     {
         if v.is_bad() {
@@ -360,7 +372,7 @@ impl Machine {
     }
 
     // A receive step of a device with a budget.
-    pub(crate) fn recv(&mut self, dev: u32, n: u32) -> Result<Reply, NoMemory>
+    pub(crate) fn recv(&mut self, dev: u32, n: u32) -> Result<Reply<'static>, NoMemory>
         ensures { IfOk result (λ reply. recv self.old dev n ≡ (self.new, reply)) }
     {
         match self.device(dev)? {

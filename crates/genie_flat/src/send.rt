@@ -107,7 +107,7 @@ impl Machine {
     }
 
     // Stages the next bytes of the first output that waits for a device.
-    fn stage(&mut self, dev: u32, n: u32) -> Result<Reply, NoMemory>
+    fn stage(&mut self, dev: u32, n: u32) -> Result<Reply<'static>, NoMemory>
         requires { option_map (must_stage self.old dev) (first_queued self.old dev) ≡ Some true }
         ensures { IfOk result (λ reply. send self.old dev n ≡ (self.new, reply)) }
     {
@@ -118,7 +118,7 @@ impl Machine {
     }
 
     // Sends the next bytes of the first output that waits for a device.
-    fn send_next(&mut self, dev: u32, n: u32) -> Result<Reply, NoMemory>
+    fn send_next(&mut self, dev: u32, n: u32) -> Result<Reply<'static>, NoMemory>
         requires { option_map (must_stage self.old dev) (first_queued self.old dev) ≡ Some false }
         ensures { IfOk result (λ reply. send self.old dev n ≡ (self.new, reply)) }
     {
@@ -130,7 +130,7 @@ impl Machine {
     }
 
     // A send step of a device with a budget.
-    pub(crate) fn send(&mut self, dev: u32, n: u32) -> Result<Reply, NoMemory>
+    pub(crate) fn send(&mut self, dev: u32, n: u32) -> Result<Reply<'static>, NoMemory>
         ensures { IfOk result (λ reply. send self.old dev n ≡ (self.new, reply)) }
     {
         match self.must_stage_first(dev) {

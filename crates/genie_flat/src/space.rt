@@ -116,7 +116,7 @@ impl Machine {
     }
 
     // A region of zeros in the system area, whose address is answered.
-    pub(crate) fn alloc(&mut self, pid: u32, pages: u32) -> Result<Reply, NoMemory>
+    pub(crate) fn alloc(&mut self, pid: u32, pages: u32) -> Result<Reply<'static>, NoMemory>
         requires small { pages ≤ 64 }
         requires few { length (regions_at self.old pid) < 32 }
         ensures { IfOk result (λ reply. alloc self.old pid pages ≡ (self.new, reply)) }

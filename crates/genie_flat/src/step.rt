@@ -12,7 +12,7 @@ ghost use Rattle.genie_flat.specs.Targets.{address_of};
 
 use crate::machine::Machine;
 use crate::transfer::Target;
-use genie_base::{Class, Event, Mark, NoMemory, PageBytes, Reply};
+use genie_base::{Class, Event, Mark, NoMemory, PageBuffer, Reply};
 
 // Whether the store may fail in an event.
 fn uses_store(event: &Event) -> bool
@@ -31,13 +31,15 @@ fn uses_store(event: &Event) -> bool
 }
 
 impl Machine {
-    // The bytes that a read answers.
-    fn read(&self, pid: u32, addr: u32, len: u32) -> PageBytes
+    // The bytes that a read answers, in the buffer.
+    fn read<'a>(&self, pid: u32, addr: u32, len: u32, into: &'a mut PageBuffer) -> Reply<'a>
         requires { len ≤ self.now.config.page }
-        ensures { result ≡ bytes_reached self.now (reach_of self.now pid addr len) addr len }
+        ensures { result ≡ Reply.Bytes (bytes_reached self.now (reach_of self.now pid addr len) addr len) }
     {
         let _page = self.page.get();
-        PageBytes::from_slice(self.bytes(pid, addr, len))
+        into.clear();
+        into.push_slice(self.bytes(pid, addr, len));
+        Reply::Bytes(into.lend())
     }
 
     // An output, whose number is answered.
@@ -48,7 +50,7 @@ impl Machine {
         target: Target,
         addr: u32,
         len: u32,
-    ) -> Result<Reply, NoMemory>
+    ) -> Result<Reply<'static>, NoMemory>
         requires few { length self.old.transfers < 64 }
         requires numbered { self.old.next < 2 ^ 32 }
         requires reached { IsSome (reach_of self.old pid addr len) }
@@ -67,7 +69,7 @@ impl Machine {
         target: Target,
         addr: Option<u32>,
         len: u32,
-    ) -> Result<Reply, NoMemory>
+    ) -> Result<Reply<'static>, NoMemory>
         requires few { length self.old.transfers < 64 }
         requires numbered { self.old.next < 2 ^ 32 }
         requires short { len ≤ 64 * self.old.config.page }
@@ -80,7 +82,11 @@ impl Machine {
     }
 
     // What an accepted event does, where nothing fails.
-    fn perform(&mut self, event: &Event) -> Result<Reply, NoMemory>
+    fn perform<'a>(
+        &mut self,
+        event: &Event,
+        into: &'a mut PageBuffer,
+    ) -> Result<Reply<'a>, NoMemory>
         requires accepted { refuse self.old event.now ≡ None }
         requires numbered { HasNumber self.old }
         ensures { IfOk result (λ reply. perform self.old event.now ≡ (self.new, reply)) }
@@ -98,7 +104,7 @@ impl Machine {
                 writable,
             } => self.protect(*pid, *page, *writable),
             Event::Read { pid, addr, len } => {
-                return Ok(Reply::Bytes(self.read(*pid, *addr, *len)));
+                return Ok(self.read(*pid, *addr, *len, into));
             }
             Event::Write { pid, addr, bytes } => self.write(*pid, *addr, bytes.as_slice()),
             Event::Output {
@@ -137,12 +143,12 @@ impl Machine {
 
 impl Machine {
     // An accepted event where nothing fails, after which orphans are cut to what is covered.
-    fn accept(&mut self, event: &Event) -> Result<Reply, NoMemory>
+    fn accept<'a>(&mut self, event: &Event, into: &'a mut PageBuffer) -> Result<Reply<'a>, NoMemory>
         requires accepted { refuse self.old event.now ≡ None }
         requires numbered { HasNumber self.old }
         ensures { IfOk result (λ reply. accept self.old event.now ≡ (self.new, reply)) }
     {
-        let reply = self.perform(event)?;
+        let reply = self.perform(event, into)?;
         self.tidy();
         Ok(reply)
     }
@@ -173,7 +179,7 @@ impl Machine {
     }
 
     // A step whose host failed after `k` bytes.
-    fn fail(&mut self, event: &Event, k: u32) -> Result<Reply, NoMemory>
+    fn fail(&mut self, event: &Event, k: u32) -> Result<Reply<'static>, NoMemory>
         requires { may_fail self.old event.now k ≡ true }
         ensures { IfOk result (λ reply. failed self.old event.now k ≡ (self.new, reply)) }
     {
@@ -185,7 +191,12 @@ impl Machine {
     }
 
     // An accepted event under a mark of a device's host. One that doesn't fit counts as none.
-    fn marked_device(&mut self, event: &Event, k: u32) -> Result<Reply, NoMemory>
+    fn marked_device<'a>(
+        &mut self,
+        event: &Event,
+        k: u32,
+        into: &'a mut PageBuffer,
+    ) -> Result<Reply<'a>, NoMemory>
         requires accepted { refuse self.old event.now ≡ None }
         requires numbered { HasNumber self.old }
         ensures { IfOk result (λ reply. marked self.old event.now (mark.Device k) ≡ (self.new, reply)) }
@@ -193,31 +204,41 @@ impl Machine {
         if self.may_fail(event, k)? {
             self.fail(event, k)
         } else {
-            self.accept(event)
+            self.accept(event, into)
         }
     }
 
     // An accepted event under a mark. One that doesn't fit counts as none.
-    fn marked(&mut self, event: &Event, mark: &Mark) -> Result<Reply, NoMemory>
+    fn marked<'a>(
+        &mut self,
+        event: &Event,
+        mark: &Mark,
+        into: &'a mut PageBuffer,
+    ) -> Result<Reply<'a>, NoMemory>
         requires accepted { refuse self.old event.now ≡ None }
         requires numbered { HasNumber self.old }
         ensures { IfOk result (λ reply. marked self.old event.now mark.now ≡ (self.new, reply)) }
     {
         match mark {
-            Mark::Device { n } => self.marked_device(event, *n),
+            Mark::Device { n } => self.marked_device(event, *n, into),
             Mark::Store if uses_store(event) => Ok(Reply::StoreFault),
-            _ => self.accept(event),
+            _ => self.accept(event, into),
         }
     }
 
     // One step.
-    pub(crate) fn step(&mut self, event: &Event, mark: &Mark) -> Result<Reply, NoMemory>
+    pub(crate) fn step<'a>(
+        &mut self,
+        event: &Event,
+        mark: &Mark,
+        into: &'a mut PageBuffer,
+    ) -> Result<Reply<'a>, NoMemory>
         requires numbered { HasNumber self.old }
         ensures { IfOk result (λ reply. step self.old event.now mark.now ≡ (self.new, reply)) }
     {
         match self.refusal(event) {
             Some(refusal) => Ok(Reply::Err(refusal)),
-            None => self.marked(event, mark),
+            None => self.marked(event, mark, into),
         }
     }
 }

@@ -277,7 +277,7 @@ impl Transfer {
     }
 
     // The reply to its `done`, with the address where the system placed its buffer.
-    pub(crate) fn arrived(&self, at: Option<u32>) -> Reply
+    pub(crate) fn arrived(&self, at: Option<u32>) -> Reply<'static>
         ensures { result ≡ Reply.Input at self.now.stored self.now.note }
     {
         Reply::Input {

@@ -14,12 +14,10 @@ use Rattle.genie_base.specs.declared.reply.Reply.{Reply}
 use Rattle.genie_base.specs.declared.reply.Reply.TheVariants.{Id}
 use Rattle.genie_base.specs.declared.semantics.Class.{Class}
 use Rattle.genie_base.specs.declared.semantics.Class.TheVariants.{Copy, Share, Move, WeakMove}
-use Rattle.genie_model.specs.declared.fate.Fate.{Fate}
-use Rattle.genie_model.specs.declared.fate.Fate.TheVariants.{Matched, Skipped, Gathering}
 use Rattle.genie_model.specs.Ending.{region_of}
 use Rattle.genie_model.specs.Sending.{sent_of}
 use Rattle.genie_model.specs.Inputs.{address_or_zero}
-use Rattle.genie_orderly.specs.Orderly.{IsOrderly}
+use Rattle.genie_orderly.specs.Orderly.{IsOrderly, matched_to}
 use Rattle.genie_model.specs.Outputs.{number_of, place_reached}
 use Rattle.genie_model.specs.Pending.{is_inward, covers, pending, first_posted, is_early_at}
 use Rattle.genie_model.specs.Regions.{bytes_of, reach_of, place_in, write_reach_of}
@@ -130,11 +128,6 @@ byte_to_come v present j = if is_to_come v present j then part (payload_place v 
 abbrev pub payload_byte : Option Device → ℕ → List ℕ
 payload_byte None j = []
 payload_byte (Some v) j = byte_to_come v v.present j
-
-abbrev pub matched_to : Fate → Option ℕ
-matched_to Skipped = None
-matched_to (Matched k) = Some k
-matched_to Gathering = None
 
 -- the number of the input whose payload that is: the one to which the datagram was matched, or the first posted input that
 -- the next record meets

@@ -1,5 +1,5 @@
 -- Laws of steps and runs.
-use Rattle.std.specs.Prelude.{◌≡◌, ◌≢◌, ℕ, ◌+◌, ◌≤◌, IsTrue, List, [], ◌∷◌, ◌++◌, length, map, flat_map, Some}
+use Rattle.std.specs.Prelude.{◌≡◌, ◌≢◌, ℕ, ◌+◌, IsTrue, List, length, map, flat_map, Some}
 use Rattle.std.specs.List.{range_with_len}
 use Rattle.genie_base.specs.declared.event.Event.{Event}
 use Rattle.genie_base.specs.declared.event.Event.TheVariants.{Output, Input, Finish}

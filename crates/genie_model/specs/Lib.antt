@@ -1,15 +1,16 @@
 pub mod Ending
 pub mod Inputs
+pub mod Lemmas
 pub mod Outputs
 pub mod Pending
 pub mod Receiving
 pub mod Refusing
 pub mod Regions
 pub mod Rows
+pub mod Runs
 pub mod Scripts
 pub mod Sending
 pub mod Space
 pub mod State
 pub mod Step
 pub mod Tables
-pub mod lemmas

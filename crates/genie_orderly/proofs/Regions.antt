@@ -2,6 +2,9 @@
 pub mod Apart
 pub mod Copied
 pub mod Distinct
+pub mod Filled
 pub mod Numbers
+pub mod Queues
 pub mod Sizes
 pub mod Spaces
+pub mod Tables

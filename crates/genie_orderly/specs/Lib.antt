@@ -1,3 +1,3 @@
+pub mod Lemmas
 pub mod Orderly
 pub mod Steps
-pub mod lemmas

@@ -1,5 +1,5 @@
 -- What every step does, and what is so of every state that a run reaches.
-use Rattle.std.specs.Prelude.{◌≡◌, ◌≢◌, ℕ, ◌+◌, ◌≤◌, Bool, true, false, IsTrue, List, [], ◌∷◌, ◌++◌, All}
+use Rattle.std.specs.Prelude.{◌≡◌, ℕ, ◌+◌, ◌≤◌, Bool, true, false, IsTrue, List, [], ◌∷◌, ◌++◌, All}
 use Rattle.genie_base.specs.Configs.{Config, Fits}
 use Rattle.genie_base.specs.Events.{is_whole, mark_of}
 use Rattle.genie_base.specs.declared.event.Event.{Event}

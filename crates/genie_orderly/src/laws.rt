@@ -1,23 +1,23 @@
 //! What every step keeps, and what is so of every state that a run reaches.
 ghost use Rattle.std.specs.Prelude.{◌≡◌, length};
-ghost use Rattle.genie_orderly.specs.Orderly.{RegionsAreApart, WiredIsBounded, CommittedIsBounded, NumbersRise, NumbersDiffer, OrphansAreNamed, OrphansRise, OrphanPlacesRise, OrphansAreTidy, RangesLie, HeldForOne, PostedAreInputs, MatchedAreInputs, DevicesAreConfigs, IsOrderly};
+ghost use Rattle.genie_orderly.specs.Orderly.{RegionsAreApart, WiredIsBounded, CommittedIsBounded, NumbersRise, NumbersDiffer, NumbersAreBelow, BuffersAreFilled, QueuesListOut, OrphansAreNamed, OrphansRise, OrphanPlacesRise, OrphansAreTidy, RangesLie, HeldForOne, PostedAreInputs, MatchedAreInputs, DevicesAreConfigs, AreTransfers, OneIsSent, MovingAreReceived, DatagramsSuit, DepthsAreKept, IsOrderly};
 ghost use Rattle.genie_orderly.specs.Steps.{Stays, StepsGrow, StepsKeepConfig, PlainStepsShowNoFault, BootIsOrderly, RunsStayOrderly};
 
 /// In a step devices keep their kinds and depths, what they have sent stays sent, and the number of the next transfer stays
 /// or rises by one.
-#[tactic(auto, using(crate::specs::lemmas::Growth::steps_grow))]
+#[tactic(auto, using(crate::specs::Lemmas::Growth::steps_grow))]
 pub fn steps_grow()
     ensures { StepsGrow }
 {}
 
 /// The reply to a step in which nothing fails shows no fault.
-#[tactic(auto, using(crate::specs::lemmas::Growth::plain_steps_show_no_fault))]
+#[tactic(auto, using(crate::specs::Lemmas::Growth::plain_steps_show_no_fault))]
 pub fn plain_steps_show_no_fault()
     ensures { PlainStepsShowNoFault }
 {}
 
 /// A step keeps the configuration.
-#[tactic(auto, using(crate::specs::lemmas::KeptCalls::steps_keep_config))]
+#[tactic(auto, using(crate::specs::Lemmas::KeptCalls::steps_keep_config))]
 pub fn steps_keep_config()
     ensures { StepsKeepConfig }
 {}
@@ -29,7 +29,7 @@ pub fn places_stay()
 {}
 
 /// A device is there exactly where the configuration has one, with its kind and depth.
-#[tactic(auto, using(crate::specs::lemmas::Growth::devices_are_configs))]
+#[tactic(auto, using(crate::specs::Lemmas::Growth::devices_are_configs))]
 pub fn devices_are_configs()
     ensures { Stays DevicesAreConfigs }
 {}
@@ -60,6 +60,21 @@ pub fn numbers_rise()
 #[tactic(auto, using(crate::proofs::Regions::Distinct::numbers_differ))]
 pub fn numbers_differ()
     ensures { Stays NumbersDiffer }
+{}
+
+/// All of these numbers are below 577.
+pub fn numbers_are_below()
+    ensures { Stays NumbersAreBelow }
+{}
+
+/// A region is In exactly while one weak move input of its process names it, and Held exactly while one move input does.
+pub fn buffers_are_filled()
+    ensures { Stays BuffersAreFilled }
+{}
+
+/// The weak queue of each process lists its Out regions, each once.
+pub fn queues_list_out()
+    ensures { Stays QueuesListOut }
 {}
 
 /// A pending weak transfer names each orphan.
@@ -109,6 +124,32 @@ pub fn posted_are_inputs()
 #[tactic(auto, using(crate::proofs::Inputs::Receivers::matched_are_inputs))]
 pub fn matched_are_inputs()
     ensures { Stays MatchedAreInputs }
+{}
+
+/// An output is queued or ready, and an input posted, receiving or ready; only a copy input keeps an address, and a move's
+/// buffer begins its region; and no more is stored than the buffer holds.
+pub fn calls_stay()
+    ensures { Stays AreTransfers }
+{}
+
+/// Of the outputs that wait for a device, nothing is staged or sent but of the first.
+pub fn one_is_sent()
+    ensures { Stays OneIsSent }
+{}
+
+/// An input is receiving only while its device receives a datagram that was matched to it.
+pub fn moving_are_received()
+    ensures { Stays MovingAreReceived }
+{}
+
+/// An early device matches or skips datagrams, another one gathers them, and none is longer than its device takes.
+pub fn datagrams_suit()
+    ensures { Stays DatagramsSuit }
+{}
+
+/// Where a device isn't early, the datagrams that wait for their `done` and the one on its way are at most its depth.
+pub fn depths_are_kept()
+    ensures { Stays DepthsAreKept }
 {}
 
 /// What a machine boots with is orderly.

@@ -1,10 +1,10 @@
 -- What is seen of a memory once the loans of a plan have ended.
-use Rattle.std.specs.Prelude.{◌≡◌, ℕ, ◌<◌, true, false, List, [], count_by, ◌==◌}
+use Rattle.std.specs.Prelude.{◌≡◌, ℕ, ◌<◌, true, false, List, [], ◌++◌, count_by, ◌==◌}
 use Rattle.genie_frame.specs.FrameTable.{FrameTable, owner_at, counts_at, is_held, is_lent, is_system, IsShaped, AreLoansOwned}
 use Rattle.genie_object.specs.declared.memory.Memory.{Memory}
 use Rattle.genie_object.specs.Memory.{seen, is_kept}
 use Rattle.genie_object.specs.Sound.{IsSound}
-use Rattle.genie_plan.specs.Loans.{Loan, Ended}
+use Rattle.genie_plan.specs.Loans.{Loan, AreOut, Ended}
 
 -- the loans may end in a sound memory: what stays wired stays held, and the frames of a system buffer carry these loans
 -- alone
@@ -23,3 +23,7 @@ EndsSoundly = (m : Memory) (t : FrameTable) (loans : List Loan) → IsSound m �
 
 abbrev pub ShowsAfterEnd : Type 0
 ShowsAfterEnd = (m : Memory) (t : FrameTable) (loans : List Loan) → Ended loans m.frames t → ShowsStill m (record m { frames = t })
+
+-- where all loans of two plans are out, those of the second are still out once the first have ended
+abbrev pub LeavesOthersOut : Type 0
+LeavesOthersOut = (old new : FrameTable) (loans others : List Loan) → Ended loans old new → AreOut old (loans ++ others) → AreOut new others

@@ -1,7 +1,7 @@
 //! Fresh frames are lent for input.
-ghost use Rattle.std.specs.Prelude.{◌≡◌, ◌≢◌, ◌+◌, ◌^◌, ◌<◌, ◌≤◌, length, count_by, true};
+ghost use Rattle.std.specs.Prelude.{◌≡◌, ◌≢◌, ℕ, ◌+◌, ◌*◌, ◌^◌, ◌<◌, ◌≤◌, length, count_by, true};
 ghost use Rattle.genie_frame.specs.FrameTable.{owner_at, is_free, is_system};
-ghost use Rattle.genie_plan.specs.Plans.{input_frames};
+ghost use Rattle.genie_plan.specs.Plans.{input_frames, CanLand};
 ghost use Rattle.genie_plan.specs.Buffers.{taken_lent, AreLentFresh};
 
 use arrayvec::ArrayVec;
@@ -23,7 +23,7 @@ fn lend_one(frames: &mut Frames, owner: Owner) -> InLoan
     frames.lend_in(frame)
 }
 
-/// Takes `n` free frames for an owner of the system, and lends each of them for input.
+/// Takes `n` free frames for a transfer's own buffer or a device's pool, and lends each of them for input.
 pub fn lend_fresh<const N: usize>(frames: &mut Frames, owner: Owner, n: u32) -> ArrayVec<InLoan, N>
     requires owner { is_system owner ≡ true }
     requires few { n ≤ N }
@@ -31,6 +31,9 @@ pub fn lend_fresh<const N: usize>(frames: &mut Frames, owner: Owner, n: u32) -> 
     requires meter { frames.old.meters.taken + n < 2 ^ 64 }
     ensures fresh { AreLentFresh owner (input_frames result.items) frames.old frames.new }
     ensures number { length (input_frames result.items) ≡ n }
+
+    // Bytes may land in any range over them.
+    ensures ready { (first len : ℕ) → first + len < 2 ^ 32 → (0 < len → first + len ≤ frames.new.page * n) → CanLand frames.new (input_frames result.items) first len }
 {
     let mut loans = ArrayVec::new();
     'each: for i in 0..n {

@@ -1,5 +1,5 @@
 //! Laws of plans.
-ghost use Rattle.genie_plan.specs.Ending.{EndsSoundly, ShowsAfterEnd};
+ghost use Rattle.genie_plan.specs.Ending.{EndsSoundly, ShowsAfterEnd, LeavesOthersOut};
 ghost use Rattle.genie_plan.specs.Landings.{ReadsRegion, ShowsInRegion, ShowsInFrames, ShowsNothingElse, HeldOnce, LandsSoundly};
 ghost use Rattle.genie_plan.specs.Staying.{OutputsStay, InputsStay, CallsLeavePlans};
 ghost use Rattle.genie_plan.specs.Wiring.{WiresKeep, UnwiresKeep};
@@ -34,10 +34,12 @@ pub fn plans_read_regions()
     ensures { ReadsRegion }
 {}
 
-/// Ended loans leave the memory sound, where what stays wired stays held, and show what was seen.
+/// Ended loans leave the memory sound, where what stays wired stays held, show what was seen, and leave the loans of
+/// every other plan out.
 pub fn ended_loans_show_what_was_seen()
     ensures sound { EndsSoundly }
     ensures seen { ShowsAfterEnd }
+    ensures others { LeavesOthersOut }
 {}
 
 /// A plan stays as it is, and has the same bytes, where no count of loans falls and each lent frame keeps its bytes. So

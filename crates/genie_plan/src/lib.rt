@@ -15,3 +15,6 @@ pub use crate::landing::{FrameLanding, Nowhere};
 pub use crate::plan::{InPlan, MOST_LOANS, OutPlan, page_count};
 pub use crate::source::FrameSource;
 pub use crate::wires::{unwire_inputs, unwire_outputs, wire_inputs, wire_outputs};
+
+#[cfg(test)]
+mod tests;

@@ -28,10 +28,8 @@ use Rattle.genie_replay.proofs.Writing.{appends_more, ends_all, ends_more}
 -- all events were stepped
 played : (start machine : Option State) (old u : HostView) (at : ℕ) (Left : List Numbered → Type 0) (events : List Numbered) → (so : SoFar start machine old u at Left) → events ≡ so.done → Played so.first events machine old u
 played start machine old u at Left events so is = rw is (record {
-  replies = so.replies;
+  run = so.run;
   plain = so.plain;
-  last = so.last;
-  follows = so.follows;
   machine_is = so.machine_is;
   written = so.written;
 })
@@ -93,33 +91,29 @@ at_unread text step line before start machine old u w at Left so only later l =
       done = so.done;
       left = left;
       split = split;
-      replies = so.replies;
+      run = so.run;
       plain = so.plain;
-      last = so.last;
-      follows = so.follows;
       machine_is = rw so.machine_is refl;
-      written = (texts so.replies, ends_all reply_text so.replies, rw replies so.written);
+      written = (texts so.run.replies, ends_all reply_text so.run.replies, rw replies so.written);
     }) l)
 
 -- the reply to an event was written in part
 pub at_host : (text : Option (List ℕ)) (step : LineStep) (line : List ℕ) (before : ℕ) (start machine after : Option State) (old u w : HostView) (at : ℕ) (Left : List Numbered → Type 0) (e : Event)
-    → (so : SoFar start machine old u at Left) → Served so.last e after u w (Err stop.Host) → NextIs text step line before so.done (at + 1, e) → PlaysFrom start text step line before after old w status.HostFault
+    → (so : SoFar start machine old u at Left) → Served so.run.last e after u w (Err stop.Host) → NextIs text step line before so.done (at + 1, e) → PlaysFrom start text step line before after old w status.HostFault
 at_host text step line before start machine after old u w at Left e so t next =
-    let r : Reply = (plain_step so.last e).1 in
+    let r : Reply = (plain_step so.run.last e).1 in
     let front = t.reply.front in
     rw so.start_is (fault text step line before so.first after old w (so.done ++ (at + 1, e) ∷ []) (rw t.machine_is refl) (λ events left split. record {
       done = so.done ++ (at + 1, e) ∷ [];
       left = left;
       split = split;
-      replies = so.replies ++ r ∷ [];
-      plain = plain_more so.replies so.last e so.plain;
-      last = (plain_step so.last e).0;
-      follows = rw (events_more so.done (at + 1, e)) (follows_more so.first (events_of so.done) so.replies so.last e so.follows);
+      run = record { replies = so.run.replies ++ r ∷ []; last = (plain_step so.run.last e).0; follows = rw (events_more so.done (at + 1, e)) (follows_more so.first (events_of so.done) so.run.replies so.run.last e so.run.follows) };
+      plain = plain_more so.run.replies so.run.last e so.plain;
       machine_is = rw t.machine_is refl;
       written = (
-        texts so.replies ++ front.0,
-        ends_more reply_text so.replies r front.0 front.1 front.2,
-        appends_more (old.handle 0).bytes (u.handle 0).bytes (w.handle 0).bytes (texts so.replies) front.0 so.written front.3,
+        texts so.run.replies ++ front.0,
+        ends_more reply_text so.run.replies r front.0 front.1 front.2,
+        appends_more (old.handle 0).bytes (u.handle 0).bytes (w.handle 0).bytes (texts so.run.replies) front.0 so.written front.3,
       );
     }) (next_some text step line before so.done (at + 1, e) next))
 
@@ -131,12 +125,10 @@ at_memory text step line before start machine after old u w at Left so t l =
       done = so.done;
       left = left;
       split = split;
-      replies = so.replies;
+      run = so.run;
       plain = so.plain;
-      last = so.last;
-      follows = so.follows;
       machine_is = tt;
-      written = (texts so.replies, ends_all reply_text so.replies, so.written);
+      written = (texts so.run.replies, ends_all reply_text so.run.replies, so.written);
     }) l)
 
 -- nothing failed

@@ -110,12 +110,10 @@ ran : (script : List ℕ) (p : Part) (events : List Numbered) (old read new mid 
 ran script p events old read new mid end start o b r = record {
   start = start;
   begins = begins script p old read new mid start o b;
-  replies = r.replies;
+  run = r.run;
   plain = r.plain;
-  last = r.last;
-  follows = r.follows;
   written = rw (b.still.replies ∙ o.replies) at r.written;
-  sent = outputs_both (IsFresh old mid) (HasSent r.last mid end) (HasAll r.last old end) 1 p.devices (λ n h f s. kept_appends (empty_told (old.handle 0).bytes) (mid.handle h).bytes (end.handle h).bytes (sent_of r.last n) f.empty s) (still_fresh script p.devices old read new mid o b.still) r.sent;
+  sent = outputs_both (IsFresh old mid) (HasSent r.run.last mid end) (HasAll r.run.last old end) 1 p.devices (λ n h f s. kept_appends (empty_told (old.handle 0).bytes) (mid.handle h).bytes (end.handle h).bytes (sent_of r.run.last n) f.empty s) (still_fresh script p.devices old read new mid o b.still) r.sent;
   tried = r.tried ∙ b.still.tried ∙ o.tried;
 }
 
@@ -126,12 +124,10 @@ ran_in_part script p events old read new mid end start o b r = record {
   done = r.done;
   left = r.left;
   split = r.split;
-  replies = r.replies;
+  run = r.run;
   plain = r.plain;
-  last = r.last;
-  follows = r.follows;
   written = rw (b.still.replies ∙ o.replies) at r.written;
-  sent = outputs_both (IsFresh old mid) (HasSentFront r.last mid end) (HasFront r.last old end) 1 p.devices (λ n h f s. kept_front (empty_told (old.handle 0).bytes) (mid.handle h).bytes (end.handle h).bytes (sent_of r.last n) f.empty s) (still_fresh script p.devices old read new mid o b.still) r.sent;
+  sent = outputs_both (IsFresh old mid) (HasSentFront r.run.last mid end) (HasFront r.run.last old end) 1 p.devices (λ n h f s. kept_front (empty_told (old.handle 0).bytes) (mid.handle h).bytes (end.handle h).bytes (sent_of r.run.last n) f.empty s) (still_fresh script p.devices old read new mid o b.still) r.sent;
   tried = r.tried ∙ b.still.tried ∙ o.tried;
 }
 

@@ -52,29 +52,25 @@ cc_some s t e = cc
 
 all_runs : (start : State) (ds : List DeviceLine) (events : List Numbered) (s : State) (old mid after new : HostView) → Begun old mid after → Played start events (Some s) mid after → HoldsOfOutputs (HasSent s after new) 1 ds → new.handle 0 ≡ after.handle 0 → new.tried ≡ after.tried → RunsAll start ds events old new
 all_runs start ds events s old mid after new b p sent replies tried =
-    let last : s ≡ p.last = cc_some s p.last p.machine_is in
+    let last : s ≡ p.run.last = cc_some s p.run.last p.machine_is in
     record {
-      replies = p.replies;
+      run = p.run;
       plain = p.plain;
-      last = p.last;
-      follows = p.follows;
-      written = rw replies (appends_more (old.handle 0).bytes (mid.handle 0).bytes (after.handle 0).bytes okay (texts p.replies) b.okay_written p.written);
+      written = rw replies (appends_more (old.handle 0).bytes (mid.handle 0).bytes (after.handle 0).bytes okay (texts p.run.replies) b.okay_written p.written);
       sent = rw (← last) (all_sent s old mid after new ds b sent);
       tried = tried ∙ b.tried;
     }
 
 part_runs : (start : State) (ds : List DeviceLine) (events : List Numbered) (s : State) (old mid after new : HostView) → Begun old mid after → PlayedInPart start events (Some s) mid after → HoldsOfOutputs (HasSentFront s after new) 1 ds → new.handle 0 ≡ after.handle 0 → new.tried ≡ after.tried → RunsInPart start ds events old new
 part_runs start ds events s old mid after new b p sent replies tried =
-    let last : s ≡ p.last = p.machine_is in
+    let last : s ≡ p.run.last = p.machine_is in
     record {
       done = p.done;
       left = p.left;
       split = p.split;
-      replies = p.replies;
+      run = p.run;
       plain = p.plain;
-      last = p.last;
-      follows = p.follows;
-      written = rw replies (up_to_behind (old.handle 0).bytes (mid.handle 0).bytes (after.handle 0).bytes okay (map reply_text p.replies) b.okay_written p.written);
+      written = rw replies (up_to_behind (old.handle 0).bytes (mid.handle 0).bytes (after.handle 0).bytes okay (map reply_text p.run.replies) b.okay_written p.written);
       sent = rw (← last) (fronts_sent s old mid after new ds b sent);
       tried = tried ∙ b.tried;
     }
@@ -85,12 +81,10 @@ as_part start events left machine old u p = record {
   done = events;
   left = left;
   split = refl;
-  replies = p.replies;
+  run = p.run;
   plain = p.plain;
-  last = p.last;
-  follows = p.follows;
   machine_is = rw p.machine_is refl;
-  written = (texts p.replies, ends_all reply_text p.replies, p.written);
+  written = (texts p.run.replies, ends_all reply_text p.run.replies, p.written);
 }
 
 -- the outputs were written whole
@@ -126,12 +120,10 @@ no_memory start ds before lines machine old mid after b q = record {
   done = q.done;
   left = q.left;
   split = q.split;
-  replies = q.replies;
+  run = q.run;
   plain = q.plain;
-  last = q.last;
-  follows = q.follows;
-  written = up_to_behind (old.handle 0).bytes (mid.handle 0).bytes (after.handle 0).bytes okay (map reply_text q.replies) b.okay_written q.written;
-  sent = outputs_all (HasSentFront q.last old after) 1 ds (λ n h later. let same : after.handle h ≡ old.handle h = b.outputs h later in rw same (front_none (old.handle h).bytes (sent_of q.last n)));
+  written = up_to_behind (old.handle 0).bytes (mid.handle 0).bytes (after.handle 0).bytes okay (map reply_text q.run.replies) b.okay_written q.written;
+  sent = outputs_all (HasSentFront q.run.last old after) 1 ds (λ n h later. let same : after.handle h ≡ old.handle h = b.outputs h later in rw same (front_none (old.handle h).bytes (sent_of q.run.last n)));
   tried = b.tried;
 }
 
@@ -163,10 +155,8 @@ okay_runs start ds before lines old mid e w = record {
   done = [];
   left = events_from before lines;
   split = refl;
-  replies = [];
+  run = record { replies = []; last = start; follows = refl };
   plain = plain_none;
-  last = start;
-  follows = refl;
   written = (w.front.0, (w.front.1, w.front.2), w.front.3);
   sent = outputs_all (HasSentFront start old mid) 1 ds (λ n h later. let same : mid.handle h ≡ old.handle h = w.only.others h (λ x. omega (arith, x, later)) in rw same (front_none (old.handle h).bytes (sent_of start n)));
   tried = w.only.tried;

@@ -11,8 +11,9 @@ use Rattle.genie_base.specs.declared.reply.Reply.{Reply}
 use Rattle.genie_host.specs.Host.{HostView, HandleState, OnlyHandle}
 use Rattle.genie_orderly.specs.Steps.{Grows, ShowNoFault}
 use Rattle.genie_model.specs.State.{State}
+use Rattle.genie_model.specs.Runs.{Stepped}
 use Rattle.genie_model.specs.Step.{Follows, step}
-use Rattle.genie_orderly.specs.lemmas.Growth.{steps_grow, plain_steps_show_no_fault}
+use Rattle.genie_orderly.specs.Lemmas.Growth.{steps_grow, plain_steps_show_no_fault}
 use Rattle.genie_script.specs.Judge.{Numbered}
 use Rattle.genie_script.specs.Spelling.{reply_text}
 use Rattle.genie_script.specs.declared.judge.Judged.{Judged}
@@ -74,13 +75,11 @@ pub record SoFar (start machine : Option State) (old now : HostView) (at : ℕ) 
   pub first : State
   pub start_is : start ≡ Some first
   pub done : List Numbered
-  pub replies : List Reply
-  pub plain : ShowNoFault replies
-  pub last : State
-  pub follows : Follows first (events_of done) replies last
-  pub machine_is : machine ≡ Some last
-  pub number : last.next ≤ at + 1
-  pub written : Appends (old.handle 0).bytes (now.handle 0).bytes (texts replies)
+  pub run : Stepped first (events_of done)
+  pub plain : ShowNoFault run.replies
+  pub machine_is : machine ≡ Some run.last
+  pub number : run.last.next ≤ at + 1
+  pub written : Appends (old.handle 0).bytes (now.handle 0).bytes (texts run.replies)
   pub script_mode : (now.handle 1).mode ≡ (old.handle 1).mode
   pub only : OnlyRun old now
   pub faults : SameFaults old now
@@ -91,10 +90,8 @@ so_far_start s v before Left first left = record {
   first = s;
   start_is = refl;
   done = [];
-  replies = [];
+  run = record { replies = []; last = s; follows = refl };
   plain = plain_none;
-  last = s;
-  follows = refl;
   machine_is = refl;
   number = omega (arith, first);
   written = appends_nothing (v.handle 0).bytes;
@@ -117,10 +114,8 @@ so_read start machine old u w at Left Next so only count f =
       first = so.first;
       start_is = so.start_is;
       done = so.done;
-      replies = so.replies;
+      run = so.run;
       plain = so.plain;
-      last = so.last;
-      follows = so.follows;
       machine_is = so.machine_is;
       number = so.number;
       written = rw replies so.written;
@@ -132,17 +127,15 @@ so_read start machine old u w at Left Next so only count f =
 
 -- a blank line was passed
 so_passed : (start machine after : Option State) (old u w : HostView) (at : ℕ) (Left Next : List Numbered → Type 0)
-    → (so : SoFar start machine old u at Left) → Untouched so.last after u w → Next so.done → SoFar start after old w (at + 1) Next
+    → (so : SoFar start machine old u at Left) → Untouched so.run.last after u w → Next so.done → SoFar start after old w (at + 1) Next
 so_passed start machine after old u w at Left Next so t next =
-    let number : so.last.next ≤ at + 1 = so.number in
+    let number : so.run.last.next ≤ at + 1 = so.number in
     rw (t.host, t.machine_is) (record {
       first = so.first;
       start_is = so.start_is;
       done = so.done;
-      replies = so.replies;
+      run = so.run;
       plain = so.plain;
-      last = so.last;
-      follows = so.follows;
       machine_is = refl;
       number = omega arith;
       written = so.written;
@@ -154,23 +147,21 @@ so_passed start machine after old u w at Left Next so t next =
 
 -- an event was stepped
 so_stepped : (start machine after : Option State) (old u w : HostView) (at : ℕ) (Left Next : List Numbered → Type 0) (e : Event) (x : Unit {0})
-    → (so : SoFar start machine old u at Left) → Served so.last e after u w (Ok x) → Next (so.done ++ (at + 1, e) ∷ []) → SoFar start after old w (at + 1) Next
+    → (so : SoFar start machine old u at Left) → Served so.run.last e after u w (Ok x) → Next (so.done ++ (at + 1, e) ∷ []) → SoFar start after old w (at + 1) Next
 so_stepped start machine after old u w at Left Next e x so t next =
-    let grows : Grows so.last (plain_step so.last e).0 = steps_grow so.last e NoFault in
-    let rises : (plain_step so.last e).0.next ≤ so.last.next + 1 = grows.next in
-    let number : so.last.next ≤ at + 1 = so.number in
+    let grows : Grows so.run.last (plain_step so.run.last e).0 = steps_grow so.run.last e NoFault in
+    let rises : (plain_step so.run.last e).0.next ≤ so.run.last.next + 1 = grows.next in
+    let number : so.run.last.next ≤ at + 1 = so.number in
     let script : w.handle 1 ≡ u.handle 1 = t.reply.only.others 1 (λ k. cc) in
     record {
       first = so.first;
       start_is = so.start_is;
       done = so.done ++ (at + 1, e) ∷ [];
-      replies = so.replies ++ (plain_step so.last e).1 ∷ [];
-      plain = plain_more so.replies so.last e so.plain;
-      last = (plain_step so.last e).0;
-      follows = rw (events_more so.done (at + 1, e)) (follows_more so.first (events_of so.done) so.replies so.last e so.follows);
+      run = record { replies = so.run.replies ++ (plain_step so.run.last e).1 ∷ []; last = (plain_step so.run.last e).0; follows = rw (events_more so.done (at + 1, e)) (follows_more so.first (events_of so.done) so.run.replies so.run.last e so.run.follows) };
+      plain = plain_more so.run.replies so.run.last e so.plain;
       machine_is = t.machine_is;
       number = omega arith;
-      written = rw texts_more (appends_more (old.handle 0).bytes (u.handle 0).bytes (w.handle 0).bytes (texts so.replies) (reply_text (plain_step so.last e).1) so.written t.reply.whole);
+      written = rw texts_more (appends_more (old.handle 0).bytes (u.handle 0).bytes (w.handle 0).bytes (texts so.run.replies) (reply_text (plain_step so.run.last e).1) so.written t.reply.whole);
       script_mode = ap (λ (h : HandleState). h.mode) script ∙ so.script_mode;
       only = only_more 0 old u w (inl refl) so.only t.reply.only;
       faults = same_trans old u w so.faults (only_faults 0 u w t.reply.only t.reply.cause.kept);
@@ -178,7 +169,7 @@ so_stepped start machine after old u w at Left Next e x so t next =
     }
 
 line_taken : (judged : Judged Event) (start machine after : Option State) (old u w : HostView) (at : ℕ) (Left Next : List Numbered → Type 0) (x : Unit {0})
-    → (so : SoFar start machine old u at Left) → TakesLine judged so.last after u w (Ok x)
+    → (so : SoFar start machine old u at Left) → TakesLine judged so.run.last after u w (Ok x)
     → (Passed ≡ judged → Next so.done) → ((e : Event) → Taken e ≡ judged → Next (so.done ++ (at + 1, e) ∷ []))
     → SoFar start after old w (at + 1) Next
 line_taken Passed start machine after old u w at Left Next x so t passed taken = so_passed start machine after old u w at Left Next so t (passed refl)
@@ -191,7 +182,7 @@ pub so_taken : (judged : Judged Event) (start machine after : Option State) (old
     → ((done : List Numbered) → Left done → Passed ≡ judged → Next done) → ((done : List Numbered) (e : Event) → Left done → Taken e ≡ judged → Next (done ++ (at + 1, e) ∷ []))
     → SoFar start after old w (at + 1) Next
 so_taken judged start machine after old u w at Left Next x so t passed taken =
-    let told : TakesLine judged so.last after u w (Ok x) = rw so.machine_is at t in
+    let told : TakesLine judged so.run.last after u w (Ok x) = rw so.machine_is at t in
     line_taken judged start machine after old u w at Left Next x so told (λ e. passed so.done so.left e) (λ ev e. taken so.done ev so.left e)
 
 line_kept : (judged : Judged Event) (s : State) (after : Option State) (u w : HostView) (x : Unit {0}) → TakesLine judged s after u w (Ok x) → w.handle 1 ≡ u.handle 1

@@ -5,7 +5,7 @@ use Rattle.genie_base.specs.declared.reply.Reply.{Reply}
 use Rattle.genie_host.specs.Host.{HostView}
 use Rattle.genie_orderly.specs.Steps.{ShowNoFault}
 use Rattle.genie_model.specs.State.{State, boot}
-use Rattle.genie_model.specs.Step.{Follows}
+use Rattle.genie_model.specs.Runs.{Stepped}
 use Rattle.genie_script.specs.Judge.{Numbered, Part, events_from, ending_from}
 use Rattle.genie_script.specs.Spelling.{reply_text}
 use Rattle.genie_script.specs.declared.line.DeviceLine.{DeviceLine}
@@ -21,12 +21,10 @@ use Rattle.genie_replay.specs.Write.{AppendsUpToLast}
 
 -- all of these events were stepped behind `ok`, and what the devices sent was written
 pub record RunsAll (start : State) (devices : List DeviceLine) (events : List Numbered) (old new : HostView) : Type 0 where
-  pub replies : List Reply
-  pub plain : ShowNoFault replies
-  pub last : State
-  pub follows : Follows start (events_of events) replies last
-  pub written : Appends (old.handle 0).bytes (new.handle 0).bytes (okay ++ texts replies)
-  pub sent : HoldsOfOutputs (HasSent last old new) 1 devices
+  pub run : Stepped start (events_of events)
+  pub plain : ShowNoFault run.replies
+  pub written : Appends (old.handle 0).bytes (new.handle 0).bytes (okay ++ texts run.replies)
+  pub sent : HoldsOfOutputs (HasSent run.last old new) 1 devices
   pub tried : new.tried ≡ old.tried
 
 -- The first ones of them were: `ok` and their replies were written, but for the end of the last one at most, and of
@@ -35,12 +33,10 @@ pub record RunsInPart (start : State) (devices : List DeviceLine) (events : List
   pub done : List Numbered
   pub left : List Numbered
   pub split : events ≡ done ++ left
-  pub replies : List Reply
-  pub plain : ShowNoFault replies
-  pub last : State
-  pub follows : Follows start (events_of done) replies last
-  pub written : AppendsUpToLast (old.handle 0).bytes (new.handle 0).bytes (okay ∷ map reply_text replies)
-  pub sent : HoldsOfOutputs (HasSentFront last old new) 1 devices
+  pub run : Stepped start (events_of done)
+  pub plain : ShowNoFault run.replies
+  pub written : AppendsUpToLast (old.handle 0).bytes (new.handle 0).bytes (okay ∷ map reply_text run.replies)
+  pub sent : HoldsOfOutputs (HasSentFront run.last old new) 1 devices
   pub tried : new.tried ≡ old.tried
 
 abbrev pub Runs : State → List DeviceLine → ℕ → List (List ℕ) → HostView → HostView → Status → Type 0

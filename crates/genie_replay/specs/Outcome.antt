@@ -11,7 +11,7 @@ use Rattle.genie_host.specs.Host.{HostView, empty_told}
 use Rattle.genie_model.specs.Sending.{sent_of}
 use Rattle.genie_orderly.specs.Steps.{ShowNoFault}
 use Rattle.genie_model.specs.State.{State}
-use Rattle.genie_model.specs.Step.{Follows}
+use Rattle.genie_model.specs.Runs.{Stepped}
 use Rattle.genie_script.specs.Judge.{Boot, Refused, Booted, Numbered, boot_part, events_from, ending_from}
 use Rattle.genie_script.specs.Spelling.{reply_text}
 use Rattle.genie_script.specs.Texts.{lines_of}
@@ -59,12 +59,10 @@ HasFront s old new number handle = AppendsFront (empty_told (old.handle 0).bytes
 pub record Ran (script : List ℕ) (c : Config) (devices : List DeviceLine) (events : List Numbered) (old new : HostView) : Type 0 where
   pub start : State
   pub begins : IsBoot old.names c devices start
-  pub replies : List Reply
-  pub plain : ShowNoFault replies
-  pub last : State
-  pub follows : Follows start (events_of events) replies last
-  pub written : Appends (old.handle 0).bytes (new.handle 0).bytes (okay ++ texts replies)
-  pub sent : HoldsOfOutputs (HasAll last old new) 1 devices
+  pub run : Stepped start (events_of events)
+  pub plain : ShowNoFault run.replies
+  pub written : Appends (old.handle 0).bytes (new.handle 0).bytes (okay ++ texts run.replies)
+  pub sent : HoldsOfOutputs (HasAll run.last old new) 1 devices
   pub tried : new.tried ≡ old.tried ++ openings script devices
 
 -- The first ones of them were stepped: the reply to the boot part and the replies to them were written, but for the end
@@ -75,12 +73,10 @@ pub record RanInPart (script : List ℕ) (c : Config) (devices : List DeviceLine
   pub split : events ≡ done ++ left
   pub start : State
   pub begins : IsBoot old.names c devices start
-  pub replies : List Reply
-  pub plain : ShowNoFault replies
-  pub last : State
-  pub follows : Follows start (events_of done) replies last
-  pub written : AppendsUpToLast (old.handle 0).bytes (new.handle 0).bytes (okay ∷ map reply_text replies)
-  pub sent : HoldsOfOutputs (HasFront last old new) 1 devices
+  pub run : Stepped start (events_of done)
+  pub plain : ShowNoFault run.replies
+  pub written : AppendsUpToLast (old.handle 0).bytes (new.handle 0).bytes (okay ∷ map reply_text run.replies)
+  pub sent : HoldsOfOutputs (HasFront run.last old new) 1 devices
   pub tried : new.tried ≡ old.tried ++ openings script devices
 
 -- no reply was written

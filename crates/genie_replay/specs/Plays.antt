@@ -5,7 +5,7 @@ use Rattle.genie_base.specs.declared.reply.Reply.{Reply}
 use Rattle.genie_host.specs.Host.{HostView}
 use Rattle.genie_orderly.specs.Steps.{ShowNoFault}
 use Rattle.genie_model.specs.State.{State}
-use Rattle.genie_model.specs.Step.{Follows}
+use Rattle.genie_model.specs.Runs.{Stepped}
 use Rattle.genie_script.specs.Judge.{Numbered, events_from, ending_from}
 use Rattle.genie_script.specs.Spelling.{reply_text}
 use Rattle.genie_replay.specs.declared.script.LineStep.{LineStep}
@@ -37,24 +37,20 @@ pub record Leaves (status : Status) (old new : HostView) : Type 0 where
 
 -- all of these events were stepped, and their replies were written
 pub record Played (start : State) (events : List Numbered) (machine : Option State) (old new : HostView) : Type 0 where
-  pub replies : List Reply
-  pub plain : ShowNoFault replies
-  pub last : State
-  pub follows : Follows start (events_of events) replies last
-  pub machine_is : machine ≡ Some last
-  pub written : Appends (old.handle 0).bytes (new.handle 0).bytes (texts replies)
+  pub run : Stepped start (events_of events)
+  pub plain : ShowNoFault run.replies
+  pub machine_is : machine ≡ Some run.last
+  pub written : Appends (old.handle 0).bytes (new.handle 0).bytes (texts run.replies)
 
 -- the first ones of them were, and their replies were written, but for the end of the last one at most
 pub record PlayedInPart (start : State) (events : List Numbered) (machine : Option State) (old new : HostView) : Type 0 where
   pub done : List Numbered
   pub left : List Numbered
   pub split : events ≡ done ++ left
-  pub replies : List Reply
-  pub plain : ShowNoFault replies
-  pub last : State
-  pub follows : Follows start (events_of done) replies last
-  pub machine_is : IfSome machine (λ s. s ≡ last)
-  pub written : AppendsUpToLast (old.handle 0).bytes (new.handle 0).bytes (map reply_text replies)
+  pub run : Stepped start (events_of done)
+  pub plain : ShowNoFault run.replies
+  pub machine_is : IfSome machine (λ s. s ≡ run.last)
+  pub written : AppendsUpToLast (old.handle 0).bytes (new.handle 0).bytes (map reply_text run.replies)
 
 abbrev pub Plays : ℕ → List (List ℕ) → State → Option State → HostView → HostView → Status → Type 0
 Plays before lines start machine old new HostFault = IsSome machine × PlayedInPart start (events_from before lines) machine old new

@@ -6,6 +6,7 @@ ghost use Rattle.genie_base.specs.Causes.{HasCause};
 ghost use Rattle.genie_replay.specs.Booting.{FindsBoot, FitsFound, ReadsDevices, ReadsBoot, IsSmall};
 
 use crate::script::{LineStep, SCRIPT, Script};
+use genie_base::PageBuffer;
 use genie_host::{Failed, Host};
 use genie_script::{
     BootLine, BootPart, Ending, Judged, LineBuffer, MOST_LINES, is_device_line, judge_device,
@@ -38,6 +39,7 @@ fn find_boot<H: Host>(
     host: &mut H,
     script: &mut Script,
     line: &mut LineBuffer,
+    bytes: &mut PageBuffer,
 ) -> Result<Found, Failed>
     requires { ((H.view host.old).handle 1).mode ≡ Reading }
     ensures only { OnlyHandle 1 (H.view host.old) (H.view host.new) }
@@ -51,7 +53,7 @@ fn find_boot<H: Host>(
             Err(error) => return Err(error),
             Ok(LineStep::End) => return Ok(Found::Refused(Ending::BadBoot(0))),
             Ok(LineStep::TooLong) => return Ok(Found::Refused(Ending::TooLong)),
-            Ok(LineStep::Line) => match judge_first(at, line.as_slice()) {
+            Ok(LineStep::Line) => match judge_first(at, line.as_slice(), bytes) {
                 Judged::Passed => {}
                 Judged::Taken(boot) => return Ok(Found::Boot(boot, at + 1)),
                 Judged::Ends(ending) => return Ok(Found::Refused(ending)),
@@ -71,6 +73,7 @@ fn read_devices<H: Host>(
     host: &mut H,
     script: &mut Script,
     line: &mut LineBuffer,
+    bytes: &mut PageBuffer,
     name: &[u8],
     part: BootPart,
     before: u64,
@@ -94,7 +97,7 @@ fn read_devices<H: Host>(
         if !is_device_line(line.as_slice()) {
             return Ok(BootRead::Whole(part, LineStep::Line, at));
         }
-        match judge_device(at, line.as_slice(), name, &part) {
+        match judge_device(at, line.as_slice(), name, &part, bytes) {
             Judged::Passed => {}
             Judged::Ends(ending) => return Ok(BootRead::Refused(ending)),
             Judged::Taken(device) => match part.add(device) {
@@ -115,6 +118,7 @@ pub(crate) fn read_boot<H: Host>(
     host: &mut H,
     script: &mut Script,
     line: &mut LineBuffer,
+    bytes: &mut PageBuffer,
     name: &[u8],
 ) -> Result<BootRead, Failed>
     requires { ((H.view host.old).handle 1).mode ≡ Reading }
@@ -124,12 +128,12 @@ pub(crate) fn read_boot<H: Host>(
         (prepend_known script.new ((H.view host.new).handle 1).bytes) line.new result }
     ensures small { IfOk result IsSmall }
 {
-    match find_boot(host, script, line) {
+    match find_boot(host, script, line, bytes) {
         Err(error) => Err(error),
         Ok(Found::Refused(ending)) => Ok(BootRead::Refused(ending)),
         Ok(Found::Boot(boot, before)) => {
             let part = BootPart::new(alloc, &boot);
-            read_devices(host, script, line, name, part, before)
+            read_devices(host, script, line, bytes, name, part, before)
         }
     }
 }

@@ -5,7 +5,7 @@ ghost use Rattle.genie_host.specs.Host.{Reading};
 ghost use Rattle.genie_replay.specs.Plays.{IsFirst, Leaves, PlaysFrom};
 
 use crate::script::{LineStep, SCRIPT, Script};
-use crate::serving::{Stop, take_line};
+use crate::serving::{Buffers, Stop, take_line};
 use crate::status::Status;
 use genie_flat::Flat;
 use genie_host::Host;
@@ -17,6 +17,7 @@ pub(crate) fn play<H: Host>(
     host: &mut H,
     script: &mut Script,
     line: &mut LineBuffer,
+    buffers: &mut Buffers,
     flat: &mut Flat,
     step: LineStep,
     before: u64,
@@ -38,7 +39,7 @@ pub(crate) fn play<H: Host>(
             LineStep::End => return Status::Done,
             LineStep::TooLong => return Status::TooLong,
         }
-        match take_line(host, flat, line.as_slice(), at) {
+        match take_line(host, flat, buffers, line.as_slice(), at) {
             Ok(()) => {}
             Err(Stop::Ended(ending)) => return Status::of(ending),
             Err(Stop::Host) => return Status::HostFault,

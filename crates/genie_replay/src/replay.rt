@@ -12,7 +12,7 @@ use crate::files::{open_files, write_files};
 use crate::inputs::{Unread, read_inputs};
 use crate::play::play;
 use crate::script::{LineStep, SCRIPT, Script};
-use crate::serving::REPLIES;
+use crate::serving::{Buffers, REPLIES};
 use crate::status::Status;
 use crate::write::write_all;
 use genie_flat::Flat;
@@ -37,6 +37,7 @@ fn run_started<H: Host>(
     host: &mut H,
     script: &mut Script,
     line: &mut LineBuffer,
+    buffers: &mut Buffers,
     flat: &mut Flat,
     devices: &[DeviceLine],
     step: LineStep,
@@ -58,7 +59,7 @@ fn run_started<H: Host>(
         Ok(()) => {}
         Err(_) => return Status::HostFault,
     }
-    let status = play(host, script, line, flat, step, before);
+    let status = play(host, script, line, buffers, flat, step, before);
     if status == Status::NoMemory {
         return status;
     }
@@ -74,6 +75,7 @@ fn run_booted<H: Host>(
     host: &mut H,
     script: &mut Script,
     line: &mut LineBuffer,
+    buffers: &mut Buffers,
     part: &BootPart,
     step: LineStep,
     before: u64,
@@ -95,7 +97,9 @@ fn run_booted<H: Host>(
         Err(_) => return Status::NoMemory,
     };
     match read_inputs(alloc, host, &mut flat, devices, SCRIPT) {
-        Ok(()) => run_started(host, script, line, &mut flat, devices, step, before),
+        Ok(()) => run_started(
+            host, script, line, buffers, &mut flat, devices, step, before,
+        ),
         Err(Unread::Host) => Status::HostFault,
         Err(Unread::Memory) => Status::NoMemory,
     }
@@ -115,14 +119,31 @@ fn replay<H: Host>(alloc: Global, host: &mut H, name: &[u8]) -> Status
     }
     let mut script = Script::new();
     let mut line = LineBuffer::new();
-    let (part, step, before) = match read_boot(alloc, host, &mut script, &mut line, name) {
+    let mut buffers = Buffers::new();
+    let (part, step, before) = match read_boot(
+        alloc,
+        host,
+        &mut script,
+        &mut line,
+        &mut buffers.said,
+        name,
+    ) {
         Ok(BootRead::Whole(part, step, before)) => (part, step, before),
         Ok(BootRead::Refused(ending)) => return Status::of(ending),
         Ok(BootRead::NoMemory) => return Status::NoMemory,
         Err(_) => return Status::HostFault,
     };
     match open_files(host, part.devices()) {
-        Ok(()) => run_booted(alloc, host, &mut script, &mut line, &part, step, before),
+        Ok(()) => run_booted(
+            alloc,
+            host,
+            &mut script,
+            &mut line,
+            &mut buffers,
+            &part,
+            step,
+            before,
+        ),
         Err(OpenRefused::Memory) => Status::NoMemory,
         Err(OpenRefused::Failed) => Status::HostFault,
     }

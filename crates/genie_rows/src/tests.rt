@@ -3,7 +3,7 @@ ghost use Rattle.std.specs.Prelude.{◌≡◌, ◌<◌, ◌≤◌, ◌+◌, [], 
 
 use crate::marked::{MarkedRow, failures};
 use crate::rows::{Row, accesses, devices, inputs, limits, modes, moves, outputs};
-use genie_base::{Config, DeviceConfig, Kind, Mark, NoMemory};
+use genie_base::{Config, DeviceConfig, Kind, Mark, NoMemory, PageBuffer};
 use genie_flat::Flat;
 use genie_host::{Host, MemoryHost};
 use genie_orderly::laws;
@@ -381,10 +381,12 @@ fn step_line(
     ensures { IfSome flat.new (λ s. s.next ≤ most + 1) }
 {
     laws::steps_grow();
+    let mut said = PageBuffer::new();
+    let mut answer = PageBuffer::new();
     out.clear();
-    match judge_event(0, line.as_bytes()) {
+    match judge_event(0, line.as_bytes(), &mut said) {
         Judged::Taken(event) => {
-            let reply = flat.step(&event, mark)?;
+            let reply = flat.step(&event, mark, &mut answer)?;
             put_reply(&reply, out);
             Ok(())
         }

@@ -38,5 +38,5 @@ scripts_run_alike law script other c d devices events others old new before afte
     let from : a.start ≡ boot c (inputs_from old.names (λ _. []) devices) = a.begins.told told in
     let there : b.start ≡ boot d (inputs_from before.names (λ _. []) devices) = b.begins.told (files_told old.names before.names devices alike told) in
     let start : b.start ≡ with_thresholds out back a.start = there ∙ ap (boot d) (same_inputs old.names before.names (λ _. []) devices alike) ∙ other_boot c d (inputs_from old.names (λ _. []) devices) same ∙ sym (ap (with_thresholds out back) from) in
-    let both = law out back a.start (events_of events) (events_of others) a.replies b.replies a.last b.last levels a.follows (rw (sym start) b.follows) a.plain b.plain in
+    let both = law out back a.start (events_of events) (events_of others) a.run.replies b.run.replies a.run.last b.run.last levels a.run.follows (rw (sym start) b.run.follows) a.plain b.plain in
     record { replies = both.0; sent = λ k. ap (λ (s : State). sent_of s k) both.1 }

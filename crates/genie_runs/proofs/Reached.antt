@@ -39,6 +39,6 @@ pub runs_are_sound : RunsStayOrderly → OutputsKeepIntegrity → WeakTransfersK
 runs_are_sound stay keep weak limits script text part before lines old new e =
     let kept = limits script text part before lines e in
     record {
-      all = λ r. sound stay keep weak part.config r.begins.inputs r.start (events_from before lines) r.replies r.begins.boots kept.fits kept.whole;
-      in_part = λ r. sound stay keep weak part.config r.begins.inputs r.start r.done r.replies r.begins.boots kept.fits (parts (λ (n : Numbered). IsWhole n.1) r.done r.left (subst (All (λ (n : Numbered). IsWhole n.1)) r.split kept.whole)).0;
+      all = λ r. sound stay keep weak part.config r.begins.inputs r.start (events_from before lines) r.run.replies r.begins.boots kept.fits kept.whole;
+      in_part = λ r. sound stay keep weak part.config r.begins.inputs r.start r.done r.run.replies r.begins.boots kept.fits (parts (λ (n : Numbered). IsWhole n.1) r.done r.left (subst (All (λ (n : Numbered). IsWhole n.1)) r.split kept.whole)).0;
     }

@@ -14,8 +14,8 @@ SameButThresholds c d = d ≡ record c { copy_out = d.copy_out; reverse_copy_out
 
 -- the same replies, and the same bytes from each device
 pub record SameRun {script other : List ℕ} {c d : Config} {devices : List DeviceLine} {events others : List Numbered} {old new before after : HostView} (a : Ran script c devices events old new) (b : Ran other d devices others before after) : Type 0 where
-  pub replies : b.replies ≡ a.replies
-  pub sent : (k : ℕ) → sent_of b.last k ≡ sent_of a.last k
+  pub replies : b.run.replies ≡ a.run.replies
+  pub sent : (k : ℕ) → sent_of b.run.last k ≡ sent_of a.run.last k
 
 -- Where the inputs are told and are the same, such scripts run alike.
 abbrev pub ScriptsRunAlike : Type 0

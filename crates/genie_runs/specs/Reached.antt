@@ -31,8 +31,8 @@ IsSoundRun start events replies = (es fs left : List Event) (rs qs rest : List R
 
 -- so is the run of these events, whether it comes to their end or is cut short
 pub record RunsSoundly (script : List ℕ) (part : Part) (events : List Numbered) (old new : HostView) : Type 0 where
-  pub all : (r : Ran script part.config part.devices events old new) → IsSoundRun r.start (events_of events) r.replies
-  pub in_part : (r : RanInPart script part.config part.devices events old new) → IsSoundRun r.start (events_of r.done) r.replies
+  pub all : (r : Ran script part.config part.devices events old new) → IsSoundRun r.start (events_of events) r.run.replies
+  pub in_part : (r : RanInPart script part.config part.devices events old new) → IsSoundRun r.start (events_of r.done) r.run.replies
 
 -- so is the run of every script that comes to its events
 abbrev pub RunsAreSound : Type 0

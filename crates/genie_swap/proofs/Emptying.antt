@@ -23,7 +23,7 @@ use Rattle.std.proofs.lemmas.Bool.Decides.{nat_tests}
 use Rattle.genie_object.specs.Objects.{entry_at, object_at, names, no_entry}
 use Rattle.genie_object.specs.Memory.{Seen, seen, see_entry, see_kept, is_kept, page_bytes, place_bytes, zeros, frame_of, frame_in}
 use Rattle.genie_object.specs.Sound.{IsSound, strong_at, is_slot, is_in_slot, times_named, IsFramed, IsPrivate, AreWired}
-use Rattle.genie_object.specs.Lemmas.Changing.{shows_disowned, shows_again}
+use Rattle.genie_object.specs.Lemmas.Changing.{shows_disowned, shows_same_bytes}
 use Rattle.genie_object.specs.Touching.{Touches, Lasts, IsOutside, is_entry}
 use Rattle.genie_object.specs.Lemmas.Touching.{touches_none}
 use Rattle.genie_swap.specs.Beside.{LeavesOthers}
@@ -419,7 +419,7 @@ module _ (m : Memory) (o i : ℕ) (p : PageId) (last : Bool) (gone : Option Plac
   again slots None h = refl
   again slots (Some Zero) h = refl
   again slots (Some (Slot r)) h = refl
-  again slots (Some (Frame f)) h = ap (see_kept (see_entry (seen m slots) o i (zeros m.frames)) f.0) (h f refl) ∙ shows_again (see_entry (seen m slots) o i (zeros m.frames)) f.0
+  again slots (Some (Frame f)) h = ap (see_kept (see_entry (seen m slots) o i (zeros m.frames)) f.0) (h f refl) ∙ shows_same_bytes (see_entry (seen m slots) o i (zeros m.frames)) f.0
 
   fewer : count_by is_there new.pages.pages ≤ count_by is_there m.pages.pages
   fewer =

@@ -29,11 +29,11 @@ use Rattle.genie_model.specs.State.{State, Region, Orphan, Process, Transfer}
 use Rattle.genie_model.specs.Step.{perform, with_budget, step}
 use Rattle.genie_model.specs.Tables.{entry}
 use Rattle.genie_laws.proofs.Covered.SomeElement.{Among, among_has, has_among, among_left, among_right, among_map, among_filter, among_put, among_left_or_there, among_set}
-use Rattle.genie_model.specs.lemmas.ReceiveSteps.{choice}
-use Rattle.genie_orderly.specs.lemmas.AcceptedEvents.{Allowed, allowed}
-use Rattle.genie_orderly.specs.lemmas.FoundRegions.{all_of, differ, numbers_in, no_orphan, number_has, found_at, IsThere, at_there, region_there}
-use Rattle.genie_model.specs.lemmas.Lists.{Has, all_has, any_has, has_any, find_has, has_map, has_either, pairs_head, pairs_tail, pairs_right}
-use Rattle.genie_model.specs.lemmas.Steps.{event_so}
+use Rattle.genie_model.specs.Lemmas.ReceiveSteps.{choice}
+use Rattle.genie_orderly.specs.Lemmas.AcceptedEvents.{Allowed, allowed}
+use Rattle.genie_orderly.specs.Lemmas.FoundRegions.{all_of, differ, numbers_in, no_orphan, number_has, found_at, IsThere, at_there, region_there}
+use Rattle.genie_model.specs.Lemmas.Lists.{Has, all_has, any_has, has_any, find_has, has_map, has_either, pairs_head, pairs_tail, pairs_right}
+use Rattle.genie_model.specs.Lemmas.Steps.{event_so}
 
 -- the events that store bytes
 abbrev pub may_store : Event → Bool

@@ -13,13 +13,13 @@ use Rattle.genie_model.specs.Pending.{is_numbered, covers, pending}
 use Rattle.genie_model.specs.Regions.{bytes_of}
 use Rattle.genie_model.specs.State.{State, Transfer}
 use Rattle.genie_model.specs.Step.{step, Follows}
-use Rattle.genie_orderly.specs.lemmas.AcceptedCalls.{IsAccepted, OnCall, accepted}
+use Rattle.genie_orderly.specs.Lemmas.AcceptedCalls.{IsAccepted, OnCall, accepted}
 use Rattle.genie_laws.proofs.Runs.Numbers.{runs_count}
-use Rattle.genie_model.specs.lemmas.Lists.{or_next, all_has, has_any, find_has, find_append}
-use Rattle.genie_orderly.specs.lemmas.KeptCalls.{Keeps, call_of, with_call, steps_keep}
-use Rattle.genie_orderly.specs.lemmas.AcceptedCalls.{numbers_kept, number_added}
+use Rattle.genie_model.specs.Lemmas.Lists.{or_next, all_has, has_any, find_has, find_append}
+use Rattle.genie_orderly.specs.Lemmas.KeptCalls.{Keeps, call_of, with_call, steps_keep}
+use Rattle.genie_orderly.specs.Lemmas.AcceptedCalls.{numbers_kept, number_added}
 use Rattle.genie_orderly.specs.Steps.{Stays}
-use Rattle.genie_model.specs.lemmas.PendingCalls.{Same, same, remain_found, same_later}
+use Rattle.genie_model.specs.Lemmas.PendingCalls.{Same, same, remain_found, same_later}
 use Rattle.genie_laws.proofs.Covered.Stores.{covered_bytes_stay}
 
 -- a transfer that is pending later was pending, with the same number, and covered the same places

@@ -3,7 +3,7 @@ use Rattle.std.proofs.Common.{◌≡◌, ℕ, zero, suc, Bool, true, ◌⊎◌, 
 use Rattle.std.specs.Prelude.{Option, nat_lt, slice_set}
 use Rattle.std.proofs.lemmas.Bool.{cond_both}
 use Rattle.genie_model.specs.Tables.{put_in, entry}
-use Rattle.genie_model.specs.lemmas.Lists.{Has}
+use Rattle.genie_model.specs.Lemmas.Lists.{Has}
 
 abbrev pub Among : {X : Type 0} → (X → Type 0) → List X → Type 0
 Among P [] = ⊥

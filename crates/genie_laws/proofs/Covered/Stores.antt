@@ -23,18 +23,18 @@ use Rattle.genie_model.specs.Regions.{region_numbered, is_orphan, orphan_numbere
 use Rattle.genie_model.specs.Space.{is_move, cut, tidy, stored}
 use Rattle.genie_model.specs.State.{State, Region, Orphan, Transfer}
 use Rattle.genie_model.specs.Step.{perform, with_budget, step}
-use Rattle.genie_orderly.specs.lemmas.ChangedRegions.{InPlace, place_found}
+use Rattle.genie_orderly.specs.Lemmas.ChangedRegions.{InPlace, place_found}
 use Rattle.genie_laws.proofs.Inputs.ReceiveSteps.{inputs_keep_integrity}
-use Rattle.genie_orderly.specs.lemmas.FoundRegions.{number_has, named_region}
-use Rattle.genie_orderly.specs.lemmas.BufferRegions.{filled_place}
-use Rattle.genie_model.specs.lemmas.Lists.{any_has, has_any, find_has}
+use Rattle.genie_orderly.specs.Lemmas.FoundRegions.{number_has, named_region}
+use Rattle.genie_orderly.specs.Lemmas.BufferRegions.{filled_place}
+use Rattle.genie_model.specs.Lemmas.Lists.{any_has, has_any, find_has}
 use Rattle.genie_laws.proofs.Inputs.StoredBytes.{IsNew, put_gives}
 use Rattle.genie_laws.proofs.Covered.OtherEvents.{names_covered, cut_has, others_leave}
-use Rattle.genie_orderly.specs.lemmas.NamingTransfers.{any_count, count_taken}
-use Rattle.genie_model.specs.lemmas.OnlyRegions.{finish_for_like}
-use Rattle.genie_orderly.specs.lemmas.NamedRanges.{tidy_orphan}
-use Rattle.genie_orderly.specs.lemmas.BufferRegions.{live_place}
-use Rattle.genie_model.specs.lemmas.Steps.{event_so}
+use Rattle.genie_orderly.specs.Lemmas.NamingTransfers.{any_count, count_taken}
+use Rattle.genie_model.specs.Lemmas.OnlyRegions.{finish_for_like}
+use Rattle.genie_orderly.specs.Lemmas.NamedRanges.{tidy_orphan}
+use Rattle.genie_orderly.specs.Lemmas.BufferRegions.{live_place}
+use Rattle.genie_model.specs.Lemmas.Steps.{event_so}
 
 -- the end of an event leaves the bytes of covered places
 module _ (k x : ℕ) (s : State) (covered : list_any (covers k x) s.transfers ≡ true) where

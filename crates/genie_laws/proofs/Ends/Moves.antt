@@ -12,10 +12,10 @@ use Rattle.genie_orderly.specs.Orderly.{LiesInRegion, IsOrderly}
 use Rattle.genie_model.specs.Pending.{is_inward, is_numbered, pending}
 use Rattle.genie_model.specs.Regions.{region_numbered}
 use Rattle.genie_model.specs.State.{State, Region, Transfer}
-use Rattle.genie_model.specs.lemmas.Lists.{all_has, find_has}
-use Rattle.genie_orderly.specs.lemmas.NamingTransfers.{fine_in}
-use Rattle.genie_orderly.specs.lemmas.NamedRanges.{Fine, orderly_stand}
-use Rattle.genie_model.specs.lemmas.Steps.{outcome_so}
+use Rattle.genie_model.specs.Lemmas.Lists.{all_has, find_has}
+use Rattle.genie_orderly.specs.Lemmas.NamingTransfers.{fine_in}
+use Rattle.genie_orderly.specs.Lemmas.NamedRanges.{Fine, orderly_stand}
+use Rattle.genie_model.specs.Lemmas.Steps.{outcome_so}
 
 there : (u : Transfer) (o : Option Region) → LiesInRegion u o → is_some o ≡ true
 there u None h = absurd h

@@ -11,10 +11,10 @@ use Rattle.genie_model.specs.State.{State, Region, Orphan, Transfer}
 use Rattle.genie_model.specs.Pending.{covers}
 use Rattle.genie_model.specs.Regions.{is_orphan, region_numbered, orphan_numbered, is_within_range, byte_within, bytes_within, orphan_part, region_part, bytes_of, changed, with_bytes, stored_at, stored_in_orphan, put}
 use Rattle.genie_model.specs.Space.{cut, is_named, tidy}
-use Rattle.genie_orderly.specs.lemmas.ChangedRegions.{place_found, put_orphan, put_in_place}
-use Rattle.genie_orderly.specs.lemmas.FoundRegions.{number_has}
-use Rattle.genie_model.specs.lemmas.Lists.{find_has}
-use Rattle.genie_orderly.specs.lemmas.ChangedRegions.{place_stored}
+use Rattle.genie_orderly.specs.Lemmas.ChangedRegions.{place_found, put_orphan, put_in_place}
+use Rattle.genie_orderly.specs.Lemmas.FoundRegions.{number_has}
+use Rattle.genie_model.specs.Lemmas.Lists.{find_has}
+use Rattle.genie_orderly.specs.Lemmas.ChangedRegions.{place_stored}
 
 -- place y is none of the n from place x on
 abbrev pub IsOutside : ℕ → ℕ → ℕ → Type 0

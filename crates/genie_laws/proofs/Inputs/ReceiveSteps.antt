@@ -16,8 +16,8 @@ use Rattle.genie_base.specs.declared.event.Event.TheVariants.{Recv}
 use Rattle.genie_model.specs.declared.fate.Fate.{Fate}
 use Rattle.genie_model.specs.declared.fate.Fate.TheVariants.{Matched, Skipped, Gathering}
 use Rattle.genie_model.specs.declared.phase.Phase.TheVariants.{Moving, Ready}
-use Rattle.genie_laws.specs.Integrity.{is_under_input, next_header, is_to_come, payload_byte, byte_to_come, matched_to, met_by, met, Landed, InputsKeepIntegrity}
-use Rattle.genie_orderly.specs.Orderly.{OrphanPlacesRise, IsInput, GoesToInput, IsUnderWay, ReceivesForInput, IsOrderly}
+use Rattle.genie_laws.specs.Integrity.{is_under_input, next_header, is_to_come, payload_byte, byte_to_come, met_by, met, Landed, InputsKeepIntegrity}
+use Rattle.genie_orderly.specs.Orderly.{matched_to, OrphanPlacesRise, IsInput, GoesToInput, IsUnderWay, ReceivesForInput, IsOrderly}
 use Rattle.genie_model.specs.State.{State, Transfer, Device, Datagram}
 use Rattle.genie_model.specs.Tables.{change, entry}
 use Rattle.genie_model.specs.Regions.{bytes_of}
@@ -25,14 +25,14 @@ use Rattle.genie_model.specs.Pending.{is_early, is_inward, is_posted, is_numbere
 use Rattle.genie_model.specs.Sending.{change_device}
 use Rattle.genie_model.specs.Receiving.{receiving, set_device, is_busy, with_phase, with_datagram, gathered, after_receiving, change_transfer, deliver, complete, fitting, landing, landed, land_in, land, after_bytes, go_on, take_payload, datagram, skipped, match_header, begin_datagram, read_header, header_reply, take_header, receive_record, receive, recv}
 use Rattle.genie_model.specs.Step.{accept}
-use Rattle.genie_model.specs.lemmas.ReceiveSteps.{choice}
+use Rattle.genie_model.specs.Lemmas.ReceiveSteps.{choice}
 use Rattle.genie_laws.proofs.Inputs.Payloads.{part_taken, whole_taken, behind_header}
 use Rattle.genie_laws.proofs.Inputs.OtherBytes.{IsNeat, neat_from_tidy, tidy_neat, neat_stored}
-use Rattle.genie_model.specs.lemmas.Lists.{entry_set, Has, any_found, has_at, all_has, has_any, find_has}
+use Rattle.genie_model.specs.Lemmas.Lists.{entry_set, Has, any_found, has_at, all_has, has_any, find_has}
 use Rattle.genie_laws.proofs.Inputs.StoredBytes.{IsNew, put_gives}
-use Rattle.genie_orderly.specs.lemmas.NamingTransfers.{all_change, any_change}
-use Rattle.genie_model.specs.lemmas.Steps.{event_so}
-use Rattle.genie_model.specs.lemmas.SendQueues.{same_number}
+use Rattle.genie_orderly.specs.Lemmas.NamingTransfers.{all_change, any_change}
+use Rattle.genie_model.specs.Lemmas.Steps.{event_so}
+use Rattle.genie_model.specs.Lemmas.SendQueues.{same_number}
 
 -- what is known of a transfer later in the step that began in state s
 pub record IsKnown (s : State) (t : Transfer) : Type 0 where

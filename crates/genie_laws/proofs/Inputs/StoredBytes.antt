@@ -10,10 +10,10 @@ use Rattle.genie_model.specs.State.{State, Region, Orphan}
 use Rattle.genie_orderly.specs.Orderly.{OrphanPlacesRise}
 use Rattle.genie_model.specs.Regions.{is_orphan, region_numbered, orphan_numbered, is_within_range, bytes_within, orphan_part, region_part, bytes_of, changed, with_bytes, stored_at, stored_in_orphan, put}
 use Rattle.genie_laws.proofs.Inputs.OtherBytes.{IsOutside, put_beside}
-use Rattle.genie_orderly.specs.lemmas.ChangedRegions.{place_found, put_orphan, put_in_place}
-use Rattle.genie_orderly.specs.lemmas.FoundRegions.{number_has}
-use Rattle.genie_model.specs.lemmas.Lists.{all_has, find_has, pairs_tail}
-use Rattle.genie_orderly.specs.lemmas.ChangedRegions.{place_stored}
+use Rattle.genie_orderly.specs.Lemmas.ChangedRegions.{place_found, put_orphan, put_in_place}
+use Rattle.genie_orderly.specs.Lemmas.FoundRegions.{number_has}
+use Rattle.genie_model.specs.Lemmas.Lists.{all_has, find_has, pairs_tail}
+use Rattle.genie_orderly.specs.Lemmas.ChangedRegions.{place_stored}
 
 part_one : (i : ℕ) (bytes : List ℕ) → i < length bytes → part i 1 bytes ≡ slice_index bytes i ∷ []
 part_one i [] lt = absurd (omega arith)

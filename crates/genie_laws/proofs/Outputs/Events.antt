@@ -33,17 +33,17 @@ use Rattle.genie_model.specs.Ending.{finish_found, cancel_found, without_transfe
 use Rattle.genie_orderly.specs.Orderly.{IsOrderly}
 use Rattle.genie_laws.specs.Integrity.{Accepted, accepted, WasThere}
 use Rattle.genie_model.specs.Step.{accept, perform, failed, may_fail, step}
-use Rattle.genie_model.specs.lemmas.Lists.{entry_set}
-use Rattle.genie_orderly.specs.lemmas.KeptSent.{recv_quiet}
-use Rattle.genie_orderly.specs.lemmas.BufferRegions.{reached}
-use Rattle.genie_model.specs.lemmas.SendQueues.{plain, queue, queue-append, queue_map, queue_filter, queue_without, queue_change}
+use Rattle.genie_model.specs.Lemmas.Lists.{entry_set}
+use Rattle.genie_orderly.specs.Lemmas.KeptSent.{recv_quiet}
+use Rattle.genie_orderly.specs.Lemmas.BufferRegions.{reached}
+use Rattle.genie_model.specs.Lemmas.SendQueues.{plain, queue, queue-append, queue_map, queue_filter, queue_without, queue_change}
 use Rattle.genie_laws.proofs.Outputs.ReceiveSteps.{IsFree, MeetsOther, HasMet, OnDevice, MeetOthers, Meets, posted_idle, recv_keeps}
 use Rattle.genie_laws.proofs.Outputs.Records.{HasBytes, AreWaiting, IsThere, IsCall}
 use Rattle.genie_laws.proofs.Outputs.Turns.{Turn, still, called, turn_free}
 use Rattle.genie_laws.proofs.Outputs.SendSteps.{TurnTo, none, send_here}
-use Rattle.genie_model.specs.lemmas.OnlyRegions.{SameBut, copies_like, remove_like, protect_like, stored_like, given_up_like, buffer_like, finish_for_like}
-use Rattle.genie_model.specs.lemmas.Steps.{outcome_so}
-use Rattle.genie_orderly.specs.lemmas.AcceptedEvents.{Allowed, allowed}
+use Rattle.genie_model.specs.Lemmas.OnlyRegions.{SameBut, copies_like, remove_like, protect_like, stored_like, given_up_like, buffer_like, finish_for_like}
+use Rattle.genie_model.specs.Lemmas.Steps.{outcome_so}
+use Rattle.genie_orderly.specs.Lemmas.AcceptedEvents.{Allowed, allowed}
 
 -- the transfers that wait take a turn, and datagrams still meet others
 abbrev pub Goes : ℕ → State → State → (List State → List Accepted) → Type 0

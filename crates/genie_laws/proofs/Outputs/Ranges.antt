@@ -12,8 +12,8 @@ use Rattle.genie_model.specs.Regions.{is_orphan, region_numbered, orphan_numbere
 use Rattle.genie_model.specs.Sending.{named_bytes}
 use Rattle.genie_orderly.specs.Orderly.{LiesInRegion, LiesInOrphan, Lies, IsOrderly}
 use Rattle.genie_laws.specs.Integrity.{Stood}
-use Rattle.genie_model.specs.lemmas.Lists.{all_has, any_has, find_has, pairs_head, pairs_tail}
-use Rattle.genie_orderly.specs.lemmas.FoundRegions.{number_has, no_orphan_at}
+use Rattle.genie_model.specs.Lemmas.Lists.{all_has, any_has, find_has, pairs_head, pairs_tail}
+use Rattle.genie_orderly.specs.Lemmas.FoundRegions.{number_has, no_orphan_at}
 
 abbrev Below : ℕ × ℕ → ℕ × ℕ → Type 0
 Below a b = a.0 < b.0

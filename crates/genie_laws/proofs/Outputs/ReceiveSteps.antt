@@ -17,9 +17,9 @@ use Rattle.genie_model.specs.Sending.{change_device}
 use Rattle.genie_model.specs.Refusing.{has_output}
 use Rattle.genie_model.specs.Receiving.{receiving, set_device, is_busy, with_phase, with_datagram, gathered, after_receiving, change_transfer, deliver, complete, landing, landed, land_in, land, after_bytes, go_on, take_payload, datagram, skipped, match_header, begin_datagram, take_header, receive_record, receive, recv}
 use Rattle.genie_orderly.specs.Orderly.{NumbersRise}
-use Rattle.genie_model.specs.lemmas.Lists.{all_has, find_has, entry_set}
-use Rattle.genie_model.specs.lemmas.SendQueues.{queue, number_free, queue_free}
-use Rattle.genie_model.specs.lemmas.ReceiveSteps.{choice}
+use Rattle.genie_model.specs.Lemmas.Lists.{all_has, find_has, entry_set}
+use Rattle.genie_model.specs.Lemmas.SendQueues.{queue, number_free, queue_free}
+use Rattle.genie_model.specs.Lemmas.ReceiveSteps.{choice}
 
 -- a number that no transfer of this queue has, nor a later one will have
 abbrev pub IsFree : List Transfer → ℕ → ℕ → Type 0

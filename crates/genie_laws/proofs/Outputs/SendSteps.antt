@@ -15,9 +15,9 @@ use Rattle.genie_model.specs.Sending.{named_bytes, payload_of, record_of, unsent
 use Rattle.genie_model.specs.Space.{Outcome}
 use Rattle.genie_orderly.specs.Orderly.{Lies, IsOrderly}
 use Rattle.genie_laws.specs.Integrity.{Accepted}
-use Rattle.genie_model.specs.lemmas.Lists.{find_has, entry_same}
+use Rattle.genie_model.specs.Lemmas.Lists.{find_has, entry_same}
 use Rattle.genie_laws.proofs.Outputs.Ranges.{IsNamed, stands}
-use Rattle.genie_model.specs.lemmas.SendQueues.{plain, queue, begins, queue_all}
+use Rattle.genie_model.specs.Lemmas.SendQueues.{plain, queue, begins, queue_all}
 use Rattle.genie_laws.proofs.Outputs.Records.{HasBytes, Waits, AreWaiting, IsStaged, IsSentFrom, Sends}
 use Rattle.genie_laws.proofs.Outputs.Turns.{Turn, still, stages, sends, ends}
 

@@ -14,7 +14,7 @@ use Rattle.genie_model.specs.Step.{step, Follows}
 use Rattle.genie_orderly.specs.Orderly.{IsOrderly}
 use Rattle.genie_laws.specs.Integrity.{states, accepted, outputs, OutputsKeepIntegrity}
 use Rattle.genie_orderly.specs.Steps.{Stays, BootIsOrderly}
-use Rattle.genie_model.specs.lemmas.SendQueues.{queue}
+use Rattle.genie_model.specs.Lemmas.SendQueues.{queue}
 use Rattle.genie_laws.proofs.Outputs.ReceiveSteps.{OnDevice, Meets}
 use Rattle.genie_laws.proofs.Outputs.Records.{AreWaiting, Leaves, leaves_now}
 use Rattle.genie_laws.proofs.Outputs.Turns.{Turn, turn_waiting, turn_leaves}

@@ -8,8 +8,8 @@ use Rattle.genie_model.specs.State.{State, Transfer}
 use Rattle.genie_model.specs.Pending.{is_numbered}
 use Rattle.genie_model.specs.Sending.{record_of, unsent, after_staging}
 use Rattle.genie_laws.specs.Integrity.{Accepted}
-use Rattle.genie_model.specs.lemmas.Lists.{any_append}
-use Rattle.genie_model.specs.lemmas.SendQueues.{queue}
+use Rattle.genie_model.specs.Lemmas.Lists.{any_append}
+use Rattle.genie_model.specs.Lemmas.SendQueues.{queue}
 use Rattle.genie_laws.proofs.Outputs.Records.{Waits, AreWaiting, unsent_waiting, waiting_more, IsCall, Leaves, leaves_still, leaves_called, IsStaged, stage_waits, leaves_staged, Sends, moved_on, leaves_part, leaves_last}
 
 -- nothing, one more that waits, or a step of the first one

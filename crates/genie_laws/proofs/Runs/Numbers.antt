@@ -13,8 +13,8 @@ use Rattle.genie_model.specs.Space.{Outcome}
 use Rattle.genie_orderly.specs.Steps.{id_of}
 use Rattle.genie_laws.specs.Laws.{ids, RunsCount}
 use Rattle.genie_model.specs.Step.{accept, failed, may_fail, step}
-use Rattle.genie_orderly.specs.lemmas.KeptCalls.{Did, call_of, accept_did}
-use Rattle.genie_model.specs.lemmas.Steps.{outcome_so}
+use Rattle.genie_orderly.specs.Lemmas.KeptCalls.{Did, call_of, accept_did}
+use Rattle.genie_model.specs.Lemmas.Steps.{outcome_so}
 
 -- one step's part
 record Counted (s : State) (o : Outcome) : Type 0 where

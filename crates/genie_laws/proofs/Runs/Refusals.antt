@@ -7,8 +7,8 @@ use Rattle.genie_model.specs.Space.{Outcome}
 use Rattle.genie_orderly.specs.Steps.{is_refused}
 use Rattle.genie_laws.specs.Laws.{RefusalsChangeNothing}
 use Rattle.genie_model.specs.Step.{accept}
-use Rattle.genie_orderly.specs.lemmas.KeptCalls.{accept_did}
-use Rattle.genie_model.specs.lemmas.Steps.{outcome_so}
+use Rattle.genie_orderly.specs.Lemmas.KeptCalls.{accept_did}
+use Rattle.genie_model.specs.Lemmas.Steps.{outcome_so}
 
 abbrev Stands : State → Outcome → Type 0
 Stands s o = IsTrue (is_refused o.1) → o.0 ≡ s

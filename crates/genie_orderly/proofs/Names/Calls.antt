@@ -19,16 +19,16 @@ use Rattle.genie_model.specs.Space.{zeros_at_place, add_region, is_move}
 use Rattle.genie_model.specs.Outputs.{place_reached, number_of, output_of, give_up}
 use Rattle.genie_model.specs.Inputs.{pages_for, input_of, has_pages, is_reusable, reusable, moved_in, weak_buffer, with_buffer, number_or_fresh, posted, address_or_zero}
 use Rattle.genie_orderly.specs.Orderly.{LiesInRegion, Lies, moves_into, IsOrderly}
-use Rattle.genie_model.specs.lemmas.Lists.{all_has, find_has, any_has, none_from, none_has, any_append}
-use Rattle.genie_orderly.specs.lemmas.FoundRegions.{has_region, found_at}
-use Rattle.genie_orderly.specs.lemmas.NamedRanges.{Fine, AreFine, accessible_free}
-use Rattle.genie_orderly.specs.lemmas.ChangedRegions.{place_keeps_lies}
-use Rattle.genie_orderly.specs.lemmas.AddedRegions.{IsFree, free_lies, added_found, added_held}
-use Rattle.genie_orderly.specs.lemmas.NamingTransfers.{Joins, stand_push, fine_in}
+use Rattle.genie_model.specs.Lemmas.Lists.{all_has, find_has, any_has, none_from, none_has, any_append}
+use Rattle.genie_orderly.specs.Lemmas.FoundRegions.{has_region, found_at}
+use Rattle.genie_orderly.specs.Lemmas.NamedRanges.{Fine, AreFine, accessible_free}
+use Rattle.genie_orderly.specs.Lemmas.ChangedRegions.{place_keeps_lies}
+use Rattle.genie_orderly.specs.Lemmas.AddedRegions.{IsFree, free_lies, added_found, added_held}
+use Rattle.genie_orderly.specs.Lemmas.NamingTransfers.{Joins, stand_push, fine_in}
 use Rattle.genie_orderly.proofs.Names.SpaceEvents.{Stands, state_stands, add_stands, moved_in_place, fresh_free, give_up_stands}
-use Rattle.genie_orderly.specs.lemmas.BufferRegions.{Reaches, reached, region_is}
-use Rattle.genie_orderly.specs.lemmas.RegionNumbers.{few_numbers}
-use Rattle.genie_orderly.specs.lemmas.AcceptedEvents.{page_some}
+use Rattle.genie_orderly.specs.Lemmas.BufferRegions.{Reaches, reached, region_is}
+use Rattle.genie_orderly.specs.Lemmas.RegionNumbers.{few_numbers}
+use Rattle.genie_orderly.specs.Lemmas.AcceptedEvents.{page_some}
 
 joins_none : (transfers : List Transfer) (u : Transfer) → u.region ≡ None → Joins transfers u
 joins_none transfers u none = λ k e. absurd (true≢false (sym (rw none at e)))
@@ -91,7 +91,7 @@ named_lies s u Share (Some n) k h e = subst (λ j. Lies s u (Some j)) (eqb-true 
 named_lies s u Move (Some n) k h e = subst (λ j. Lies s u (Some j)) (eqb-true n k e) (inl h.1.1)
 named_lies s u WeakMove (Some n) k h e = subst (λ j. Lies s u (Some j)) (eqb-true n k e) h
 
-free_unnamed : (s : State) (transfers : List Transfer) (k : ℕ) → IsFree s k → AreFine s transfers → list_any (names k) transfers ≡ false
+pub free_unnamed : (s : State) (transfers : List Transfer) (k : ℕ) → IsFree s k → AreFine s transfers → list_any (names k) transfers ≡ false
 free_unnamed s transfers k free fine = none_from (names k) transfers (λ u has. false_from_ne_true (names k u) (λ e. free_lies s k u free (named_lies s u u.class u.region k (all_has (fine_in s) transfers fine u has) e)))
 
 -- a buffer is made

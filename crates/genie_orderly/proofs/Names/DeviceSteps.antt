@@ -6,10 +6,10 @@ use Rattle.genie_model.specs.State.{State, Transfer}
 use Rattle.genie_model.specs.Pending.{is_numbered, first_queued, waits_for}
 use Rattle.genie_model.specs.Sending.{after_sending, send_bytes, must_stage, staged_now, after_staging, stage_bytes, stage_count, send_count, send_next, send}
 use Rattle.genie_model.specs.Receiving.{change_transfer, recv}
-use Rattle.genie_orderly.specs.lemmas.NamingTransfers.{stand_change}
+use Rattle.genie_orderly.specs.Lemmas.NamingTransfers.{stand_change}
 use Rattle.genie_orderly.proofs.Names.SpaceEvents.{Stands, put_stands}
-use Rattle.genie_model.specs.lemmas.ReceiveSteps.{choice, recv_keeps}
-use Rattle.genie_model.specs.lemmas.PendingCalls.{KeepsCall, sending_call}
+use Rattle.genie_model.specs.Lemmas.ReceiveSteps.{choice, recv_keeps}
+use Rattle.genie_model.specs.Lemmas.PendingCalls.{KeepsCall, sending_call}
 
 -- the transfer that is being sent
 send_stands : (s : State) (d n : ℕ) (o : Option Transfer) → Stands s → Stands (send_next s d n o).0

@@ -1,5 +1,5 @@
 -- What transfers name stays there where a transfer ends.
-use Rattle.std.proofs.Common.{◌≡◌, ℕ, false, refl, ◌∙◌}
+use Rattle.std.proofs.Common.{◌≡◌, ℕ, false, refl}
 use Rattle.std.specs.Prelude.{Option, Some, None}
 use Rattle.std.specs.List.{list_any}
 use Rattle.std.proofs.lemmas.Bool.{cond_both}
@@ -15,10 +15,10 @@ use Rattle.genie_model.specs.Outputs.{give_up}
 use Rattle.genie_model.specs.Inputs.{address_or_zero}
 use Rattle.genie_model.specs.Ending.{without_transfer, region_of, finish_copy, filled, finish_move, finish_share, finish_weak_move, finish_input, finish_owned, finish_for, finish_found, cancel_found}
 use Rattle.genie_orderly.specs.Orderly.{moves_into, NumbersDiffer}
-use Rattle.genie_orderly.specs.lemmas.FoundRegions.{named_region}
-use Rattle.genie_orderly.specs.lemmas.NamingTransfers.{stand_without, none_left}
+use Rattle.genie_orderly.specs.Lemmas.FoundRegions.{named_region}
+use Rattle.genie_orderly.specs.Lemmas.NamingTransfers.{stand_without, none_left}
 use Rattle.genie_orderly.proofs.Names.SpaceEvents.{Stands, put_stands, state_stands, give_up_stands}
-use Rattle.genie_orderly.specs.lemmas.BufferRegions.{live_place, filled_place}
+use Rattle.genie_orderly.specs.Lemmas.BufferRegions.{live_place, filled_place}
 
 copy_stands : (s : State) (t : Transfer) (o : Option Region) → Stands s → Stands (finish_copy s t o).0
 copy_stands s t None h = h

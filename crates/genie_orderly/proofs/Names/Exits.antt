@@ -12,11 +12,11 @@ use Rattle.genie_model.specs.Regions.{regions_of, regions_at, is_region, region_
 use Rattle.genie_model.specs.Pending.{is_just, names}
 use Rattle.genie_model.specs.Space.{exit, is_move, disowned, is_posted_by}
 use Rattle.genie_orderly.specs.Orderly.{holds, orphan_numbers, NumbersDiffer, moves_into}
-use Rattle.genie_model.specs.lemmas.Lists.{Has, has_left, has_right, has_either, or_next, find_append, find_has, any_found, find_none, pairs_right, pairs_beside, entry_set}
-use Rattle.genie_orderly.specs.lemmas.FoundRegions.{all_of, region_found, has_region, splits, find_middle, Differ, numbers_in, differ, only_region, orphans_beside, orphans_from, found_at, no_orphan_at}
-use Rattle.genie_orderly.specs.lemmas.NamedRanges.{Holds, KeepsLies, Fine, fine_stays, held_region, Stand}
-use Rattle.genie_orderly.specs.lemmas.ChangedRegions.{holds_it, lies_in_orphan}
-use Rattle.genie_orderly.specs.lemmas.NamingTransfers.{any_kept, count_kept, fewer, fine_in}
+use Rattle.genie_model.specs.Lemmas.Lists.{Has, has_left, has_right, has_either, or_next, find_append, find_has, any_found, find_none, pairs_right, pairs_beside, entry_set}
+use Rattle.genie_orderly.specs.Lemmas.FoundRegions.{all_of, region_found, has_region, splits, find_middle, Differ, numbers_in, differ, only_region, orphans_beside, orphans_from, found_at, no_orphan_at}
+use Rattle.genie_orderly.specs.Lemmas.NamedRanges.{Holds, KeepsLies, Fine, fine_stays, held_region, Stand}
+use Rattle.genie_orderly.specs.Lemmas.ChangedRegions.{holds_it, lies_in_orphan}
+use Rattle.genie_orderly.specs.Lemmas.NamingTransfers.{any_kept, count_kept, fewer, fine_in}
 
 -- a transfer without its owner
 gone_fine : (s t : State) (u : Transfer) (class : Class) (named new : Option ℕ) → KeepsLies s t → new ≡ (if is_move class then None else named) → Fine s u class named → Fine t (record u { owner = None; region = new }) class new

@@ -1,5 +1,5 @@
 -- What transfers name stays there in the events on address spaces.
-use Rattle.std.proofs.Common.{◌≡◌, ℕ, ◌+◌, ◌*◌, ◌<◌, ◌≤◌, Bool, false, ◌&&◌, ◌==◌, List, [], ◌∷◌, ◌++◌, length, map, refl, ap, arith}
+use Rattle.std.proofs.Common.{◌≡◌, ℕ, ◌+◌, ◌<◌, ◌≤◌, Bool, false, ◌==◌, List, [], ◌∷◌, ◌++◌, length, map, refl, ap, arith}
 use Rattle.std.specs.Prelude.{Some, None}
 use Rattle.std.specs.List.{list_any}
 use Rattle.std.proofs.lemmas.Bool.{cond_both, or_parts}
@@ -13,15 +13,15 @@ use Rattle.genie_model.specs.Space.{add_region, remove, accessible, copy_of, add
 use Rattle.genie_model.specs.Outputs.{moved_out_of, moved_out, give_up}
 use Rattle.genie_model.specs.Inputs.{moved_in_of, moved_in}
 use Rattle.genie_orderly.specs.Orderly.{moves_into, numbers, NumbersDiffer, IsOrderly}
-use Rattle.genie_model.specs.lemmas.Lists.{Has}
-use Rattle.genie_orderly.specs.lemmas.FoundRegions.{all_of, differ, no_orphan, found_at}
-use Rattle.genie_orderly.specs.lemmas.NamedRanges.{Stand, stand_stays, stand_beside}
-use Rattle.genie_orderly.specs.lemmas.ChangedRegions.{InPlace, in_place_by, place_keeps_lies, place_keeps_held, place_keeps_others, put_in_place, remove_keeps_lies, remove_keeps_held}
-use Rattle.genie_orderly.specs.lemmas.AddedRegions.{IsFree, unused_free, add_keeps_lies, add_keeps_held, numbers_few, spawned_all, spawn_keeps_lies, spawn_keeps_held}
-use Rattle.genie_orderly.specs.lemmas.RegionNumbers.{fresh_unused, few_numbers_beside}
+use Rattle.genie_model.specs.Lemmas.Lists.{Has}
+use Rattle.genie_orderly.specs.Lemmas.FoundRegions.{all_of, differ, no_orphan, found_at}
+use Rattle.genie_orderly.specs.Lemmas.NamedRanges.{Stand, stand_stays, stand_beside}
+use Rattle.genie_orderly.specs.Lemmas.ChangedRegions.{InPlace, in_place_by, place_keeps_lies, place_keeps_held, place_keeps_others, put_in_place, remove_keeps_lies, remove_keeps_held}
+use Rattle.genie_orderly.specs.Lemmas.AddedRegions.{IsFree, unused_free, add_keeps_lies, add_keeps_held, numbers_few, spawned_all, spawn_keeps_lies, spawn_keeps_held}
+use Rattle.genie_orderly.specs.Lemmas.RegionNumbers.{fresh_unused, few_numbers_beside}
 use Rattle.genie_orderly.proofs.Regions.Numbers.{added_length}
 use Rattle.genie_orderly.proofs.Regions.Copied.{accessible_few}
-use Rattle.genie_orderly.specs.lemmas.BufferRegions.{in_place_state}
+use Rattle.genie_orderly.specs.Lemmas.BufferRegions.{in_place_state}
 
 -- what all transfers of the state name is there
 abbrev pub Stands : State → Type 0
@@ -59,7 +59,7 @@ none_changed k f (r ∷ rs) e =
     let first : (r.number == k) ≡ false = both.0 in
     rw first (ap (λ l. r ∷ l) (none_changed k f rs both.1))
 
-moved_out_regions : (k : ℕ) (p : Process) → (moved_out_of k p).regions ≡ map (changed k (with_state Out)) p.regions
+pub moved_out_regions : (k : ℕ) (p : Process) → (moved_out_of k p).regions ≡ map (changed k (with_state Out)) p.regions
 moved_out_regions k p = cond_both (has_number k (Some p)) (record { queue = p.queue ++ k ∷ []; regions = map (changed k (with_state Out)) p.regions }) p (λ (q : Process). q.regions ≡ map (changed k (with_state Out)) p.regions)
     (λ _. refl) (none_changed k (with_state Out) p.regions)
 

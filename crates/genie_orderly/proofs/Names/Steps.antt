@@ -17,17 +17,17 @@ use Rattle.genie_model.specs.Space.{zeros, zeros_at_place, remove_found, region_
 use Rattle.genie_model.specs.Step.{perform, accept, with_budget, step}
 use Rattle.genie_orderly.specs.Steps.{Stays}
 use Rattle.genie_orderly.specs.Orderly.{RangesLie, HeldForOne, IsOrderly}
-use Rattle.genie_model.specs.lemmas.Lists.{find_has}
-use Rattle.genie_orderly.specs.lemmas.FoundRegions.{has_region}
-use Rattle.genie_orderly.specs.lemmas.NamedRanges.{orderly_stand, accessible_free, tidied_ranges, tidied_holds}
+use Rattle.genie_model.specs.Lemmas.Lists.{find_has}
+use Rattle.genie_orderly.specs.Lemmas.FoundRegions.{has_region}
+use Rattle.genie_orderly.specs.Lemmas.NamedRanges.{orderly_stand, accessible_free, tidied_ranges, tidied_holds}
 use Rattle.genie_orderly.proofs.Names.SpaceEvents.{Stands, put_stands, protect_stands, remove_stands, add_stands, fresh_free, spawn_stands, fork_stands}
 use Rattle.genie_orderly.proofs.Names.Exits.{exit_stands}
 use Rattle.genie_orderly.proofs.Names.Calls.{output_stands, input_stands}
 use Rattle.genie_orderly.proofs.Names.DeviceSteps.{sent_stands, received_stands}
 use Rattle.genie_orderly.proofs.Names.Ends.{finished_stands, cancelled_stands}
-use Rattle.genie_orderly.specs.lemmas.RegionNumbers.{few_numbers}
-use Rattle.genie_model.specs.lemmas.Steps.{event_so}
-use Rattle.genie_orderly.specs.lemmas.AcceptedEvents.{Allowed, allowed, budget_allowed}
+use Rattle.genie_orderly.specs.Lemmas.RegionNumbers.{few_numbers}
+use Rattle.genie_model.specs.Lemmas.Steps.{event_so}
+use Rattle.genie_orderly.specs.Lemmas.AcceptedEvents.{Allowed, allowed, budget_allowed}
 
 alive_entry : {X : Type 0} (o : Option X) → is_some o ≡ true → (x : X) × (o ≡ Some x)
 alive_entry None e = absurd (cc)

@@ -7,7 +7,7 @@ use Rattle.genie_orderly.specs.Orderly.{OrphansAreNamed}
 use Rattle.genie_model.specs.State.{State, Orphan}
 use Rattle.genie_model.specs.Space.{cut, is_named, tidy}
 use Rattle.genie_model.specs.Step.{perform}
-use Rattle.genie_model.specs.lemmas.Steps.{step_so}
+use Rattle.genie_model.specs.Lemmas.Steps.{step_so}
 
 pub tidy_named : (s : State) → OrphansAreNamed (tidy s)
 tidy_named s = All-map (λ (o : Orphan). IsTrue (is_named s.transfers o)) (cut s.transfers) (filter (is_named s.transfers) s.orphans) (filter_passes (is_named s.transfers) s.orphans)

@@ -1,6 +1,6 @@
 -- Orphans stand in the order of their numbers after every step, and the places of each one rise.
 use Rattle.std.proofs.Common.{◌≡◌, ◌≢◌, ℕ, zero, suc, ◌+◌, ◌<◌, ◌≤◌, ltb-true, ltb-false, flat_map, List, [], ◌∷◌, map, filter, get_or, All, AllPairs, refl, arith}
-use Rattle.std.specs.Prelude.{nat_lt, ◌-◌, ◌==◌}
+use Rattle.std.specs.Prelude.{nat_lt, ◌==◌}
 use Rattle.std.specs.List.{list_any}
 use Rattle.std.proofs.lemmas.Bool.{cond_both}
 use Rattle.std.proofs.lemmas.List.Elements.{All-cons, All-head, All-tail, All-map, All-filter, All-weaker}
@@ -16,10 +16,10 @@ use Rattle.genie_model.specs.State.{State, Region, Orphan, Transfer}
 use Rattle.genie_model.specs.Step.{accept, perform, step}
 use Rattle.genie_model.specs.Tables.{put_in}
 use Rattle.genie_orderly.proofs.Regions.Distinct.{numbers_differ}
-use Rattle.genie_model.specs.lemmas.Lists.{has_at, has_map, pairs_head, pairs_tail, pairs_right}
+use Rattle.genie_model.specs.Lemmas.Lists.{has_at, has_map, pairs_head, pairs_tail, pairs_right}
 use Rattle.genie_orderly.proofs.Orphans.Kept.{orphans_keep}
-use Rattle.genie_model.specs.lemmas.Steps.{step_so}
-use Rattle.genie_orderly.specs.lemmas.ChangedRegions.{place_stored}
+use Rattle.genie_model.specs.Lemmas.Steps.{step_so}
+use Rattle.genie_orderly.specs.Lemmas.ChangedRegions.{place_stored}
 
 abbrev Below : ℕ × ℕ → ℕ × ℕ → Type 0
 Below a b = a.0 < b.0

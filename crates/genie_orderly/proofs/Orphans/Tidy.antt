@@ -8,7 +8,7 @@ use Rattle.genie_model.specs.Pending.{covers}
 use Rattle.genie_model.specs.Space.{cut, is_named, tidy}
 use Rattle.genie_model.specs.State.{State, Orphan, Transfer}
 use Rattle.genie_model.specs.Step.{perform}
-use Rattle.genie_model.specs.lemmas.Steps.{step_so}
+use Rattle.genie_model.specs.Lemmas.Steps.{step_so}
 
 filter_twice : {X : Type 0} (p : X → Bool) (xs : List X) → filter p (filter p xs) ≡ filter p xs
 filter_twice p [] = refl

@@ -1,5 +1,5 @@
 -- Regions that are apart: one more in its place, fewer of them, and others at the same pages.
-use Rattle.std.proofs.Common.{◌≡◌, ℕ, suc, ◌+◌, ◌<◌, ◌≤◌, Bool, true, false, List, [], ◌∷◌, length, map, filter, refl, ap, arith}
+use Rattle.std.proofs.Common.{◌≡◌, ℕ, ◌+◌, ◌<◌, ◌≤◌, Bool, true, false, List, [], ◌∷◌, length, map, filter, refl, arith}
 use Rattle.std.specs.Prelude.{cond, nat_le, sum_by, All}
 use Rattle.std.proofs.lemmas.Bool.{cond_both}
 use Rattle.std.proofs.lemmas.Bool.Decides.{nat_tests}
@@ -12,8 +12,8 @@ use Rattle.genie_base.specs.Regions.{Extent, AreInOrder, add_in_order, is_apart}
 use Rattle.genie_orderly.specs.Orderly.{IsRegion, AreApart}
 use Rattle.genie_model.specs.Regions.{extent_of}
 use Rattle.genie_model.specs.State.{Region}
-use Rattle.genie_model.specs.lemmas.Lists.{pairs_all, pairs_tail}
-use Rattle.genie_model.specs.lemmas.RegionCounts.{length_added}
+use Rattle.genie_model.specs.Lemmas.Lists.{pairs_all, pairs_tail}
+use Rattle.genie_model.specs.Lemmas.RegionCounts.{length_added}
 
 -- sums where every number falls or stays, and of fewer numbers
 pub mapped_sum : {X : Type 0} (f : X → ℕ) (g : X → X) → ((x : X) → f (g x) ≤ f x) → (xs : List X) → sum_by f (map g xs) ≤ sum_by f xs

@@ -1,5 +1,5 @@
 -- How many regions are copied.
-use Rattle.std.proofs.Common.{◌≡◌, ℕ, ◌+◌, ◌<◌, ◌≤◌, [], ◌∷◌, length, ◌∙◌, arith, Bool}
+use Rattle.std.proofs.Common.{ℕ, ◌≤◌, length, arith, Bool}
 use Rattle.std.specs.Prelude.{Option}
 use Rattle.std.proofs.lemmas.List.Sums.{length-filter, count_by-le-length}
 use Rattle.genie_base.specs.Regions.{is_accessible}
@@ -7,7 +7,7 @@ use Rattle.genie_model.specs.State.{State, Region, Process}
 use Rattle.genie_model.specs.Regions.{regions_of, regions_at}
 use Rattle.genie_model.specs.Space.{accessible}
 use Rattle.genie_orderly.specs.Orderly.{RegionsAreApart}
-use Rattle.genie_model.specs.lemmas.Lists.{at_entry}
+use Rattle.genie_model.specs.Lemmas.Lists.{at_entry}
 
 -- no more than 32 regions are copied
 pub accessible_few : (s : State) (p : ℕ) → RegionsAreApart s → length (accessible (regions_at s p)) ≤ 32

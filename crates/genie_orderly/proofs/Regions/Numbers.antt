@@ -1,5 +1,5 @@
 -- What changes of regions and orphans do to their numbers.
-use Rattle.std.proofs.Common.{◌≡◌, ℕ, zero, suc, ◌+◌, ◌≤◌, true, false, not, ◌==◌, nat_lt, nat_le, List, [], ◌∷◌, ◌++◌, length, map, filter, flat_map, refl, sym, ap, ap₂, subst, ◌∙◌, ⊎_elim, eqb-true, ltb-false, arith, inl, inr}
+use Rattle.std.proofs.Common.{◌≡◌, ℕ, zero, suc, ◌+◌, ◌<◌, ◌≤◌, lt-ltb, true, false, not, ◌==◌, nat_lt, nat_le, List, [], ◌∷◌, ◌++◌, length, map, filter, flat_map, refl, sym, ap, ap₂, subst, ◌∙◌, ⊎_elim, eqb-true, ltb-false, arith, inl, inr}
 use Rattle.std.specs.Prelude.{Option, Some, None, slice_set}
 use Rattle.std.proofs.lemmas.Bool.{cases_Bool, cond_both, not-true}
 use Rattle.genie_base.specs.Regions.{add_in_order}
@@ -11,9 +11,9 @@ use Rattle.genie_model.specs.Space.{with_region, add_region, copy_of, add_copies
 use Rattle.genie_model.specs.Outputs.{moved_out_of, moved_out}
 use Rattle.genie_model.specs.Inputs.{moved_in_of, moved_in}
 use Rattle.genie_orderly.specs.Orderly.{region_numbers, orphan_numbers, numbers}
-use Rattle.genie_orderly.specs.lemmas.RegionNumbers.{one, once, times, times-append, no_longer, used_times, fresh_unused}
-use Rattle.genie_orderly.specs.lemmas.FoundRegions.{all_of, numbers_in, joined_numbers}
-use Rattle.genie_model.specs.lemmas.Lists.{Has}
+use Rattle.genie_orderly.specs.Lemmas.RegionNumbers.{one, once, times, times-append, no_longer, used_times, fresh_unused, fresh_below}
+use Rattle.genie_orderly.specs.Lemmas.FoundRegions.{all_of, numbers_in, joined_numbers}
+use Rattle.genie_model.specs.Lemmas.Lists.{Has}
 
 -- how often a number is that of a region
 abbrev pub region_times : ℕ → State → ℕ
@@ -50,22 +50,22 @@ added_length s p r = omega (arith, no_longer (numbers (add_region s p r)) (r.num
 pub spawned_times : (s : State) (p k : ℕ) → times k (numbers (spawned s p)) ≤ times k (numbers s)
 spawned_times s p k = omega (arith, numbers_times k s, numbers_times k (spawned s p), set_times k s.processes p (Some (record { queue = []; regions = [] })))
 
--- no number stands twice
+-- no number stands twice, and none that is 577 or more
 abbrev pub Once : State → Type 0
-Once s = (k : ℕ) → times k (numbers s) ≤ 1
+Once s = (k : ℕ) → times k (numbers s) ≤ one (nat_lt k 577)
 
-pub added_once : (s : State) (p : ℕ) (r : Region) → Once s → is_used s r.number ≡ false → Once (add_region s p r)
-added_once s p r most unused k =
+pub added_once : (s : State) (p : ℕ) (r : Region) → Once s → is_used s r.number ≡ false → r.number < 577 → Once (add_region s p r)
+added_once s p r most unused low k =
     let none = ltb-false 0 (times r.number (numbers s)) (sym (used_times s r.number) ∙ unused) in
     ⊎_elim
-    (λ (e : (r.number == k) ≡ true). let zero_times = subst (λ j. times j (numbers s) ≤ 0) (eqb-true r.number k e) none in omega (arith, added_times s p r k, zero_times, ap one e))
+    (λ (e : (r.number == k) ≡ true). let zero_times = subst (λ j. times j (numbers s) ≤ 0) (eqb-true r.number k e) none in let below = subst (λ j. j < 577) (eqb-true r.number k e) low in omega (arith, added_times s p r k, zero_times, ap one e, ap one (lt-ltb k 577 below)))
     (λ (e : (r.number == k) ≡ false). omega (arith, added_times s p r k, most k, ap one e))
     (cases_Bool (r.number == k))
 
 -- copies with numbers that aren't used
 pub copies_once : (s : State) (q : ℕ) (regions : List Region) → length (numbers s) + length regions ≤ 576 → Once s → Once (add_copies s q regions)
 copies_once s q [] few most = most
-copies_once s q (r ∷ regions) few most = copies_once (add_region s q (copy_of s r)) q regions (omega (arith, few, added_length s q (copy_of s r))) (added_once s q (copy_of s r) most (fresh_unused s (omega (arith, few))))
+copies_once s q (r ∷ regions) few most = copies_once (add_region s q (copy_of s r)) q regions (omega (arith, few, added_length s q (copy_of s r))) (added_once s q (copy_of s r) most (fresh_unused s (omega (arith, few))) (fresh_below s (omega (arith, few))))
 
 -- every process keeps the numbers of its regions
 each_kept : (f : Process → Process) → ((p : Process) → region_numbers (Some (f p)) ≡ region_numbers (Some p)) → (processes : List (Option Process)) → flat_map region_numbers (map (change_process f) processes) ≡ flat_map region_numbers processes

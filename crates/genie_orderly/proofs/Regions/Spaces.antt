@@ -25,12 +25,12 @@ use Rattle.genie_model.specs.State.{State, Region, Process}
 use Rattle.genie_model.specs.Step.{accept, perform, with_budget}
 use Rattle.genie_model.specs.Tables.{entry}
 use Rattle.genie_model.specs.Ending.{filled}
-use Rattle.genie_orderly.specs.lemmas.AcceptedEvents.{IsNew, map_accepted, alloc_accepted, input_accepted, fork_accepted, page_some}
+use Rattle.genie_orderly.specs.Lemmas.AcceptedEvents.{IsNew, map_accepted, alloc_accepted, input_accepted, fork_accepted, page_some}
 use Rattle.genie_orderly.proofs.Regions.Apart.{Before, all_added, sum_added, one_more, clear}
-use Rattle.genie_model.specs.lemmas.RegionCounts.{added_few}
+use Rattle.genie_model.specs.Lemmas.RegionCounts.{added_few}
 use Rattle.genie_orderly.proofs.Regions.Sizes.{KeepsTable, set_sum, spawned_keeps, exit_keeps, remove_keeps, change_keeps, put_keeps, moved_out_keeps, moved_in_keeps, filled_shape, state_shape}
-use Rattle.genie_model.specs.lemmas.Steps.{event_so}
-use Rattle.genie_model.specs.lemmas.Lists.{at_entry, pairs_all, pairs_tail}
+use Rattle.genie_model.specs.Lemmas.Steps.{event_so}
+use Rattle.genie_model.specs.Lemmas.Lists.{at_entry, pairs_all, pairs_tail}
 use Rattle.genie_orderly.proofs.Runs.Events.{IsKept, event_kept}
 
 -- 16 processes, whose regions are apart and fit the store

@@ -15,9 +15,9 @@ use Rattle.genie_model.specs.Outputs.{moved_out, give_up}
 use Rattle.genie_model.specs.Sending.{must_stage, send_next}
 use Rattle.genie_model.specs.Ending.{filled, finish_found, cancel_found, without_transfer, region_of}
 use Rattle.genie_model.specs.Step.{perform}
-use Rattle.genie_model.specs.lemmas.ReceiveSteps.{choice, recv_keeps}
-use Rattle.genie_model.specs.lemmas.Ends.{finish_for_keeps}
-use Rattle.genie_orderly.specs.lemmas.FoundRegions.{IsThere, at_there, region_there}
+use Rattle.genie_model.specs.Lemmas.ReceiveSteps.{choice, recv_keeps}
+use Rattle.genie_model.specs.Lemmas.Ends.{finish_for_keeps}
+use Rattle.genie_orderly.specs.Lemmas.FoundRegions.{IsThere, at_there, region_there}
 
 abbrev pub makes : Event → Bool
 makes (Spawn p) = true

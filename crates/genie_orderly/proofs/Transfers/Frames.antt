@@ -6,9 +6,9 @@ use Rattle.genie_model.specs.State.{State, Transfer}
 use Rattle.genie_orderly.specs.Orderly.{WiredIsBounded}
 use Rattle.genie_orderly.specs.Steps.{Stays}
 use Rattle.genie_model.specs.Pending.{cost_of}
-use Rattle.genie_model.specs.lemmas.PendingCalls.{remain_cost}
-use Rattle.genie_orderly.specs.lemmas.KeptCalls.{Keeps, call_of, with_call, steps_keep}
-use Rattle.genie_orderly.specs.lemmas.AcceptedCalls.{IsAccepted, OnCall, accepted}
+use Rattle.genie_model.specs.Lemmas.PendingCalls.{remain_cost}
+use Rattle.genie_orderly.specs.Lemmas.KeptCalls.{Keeps, call_of, with_call, steps_keep}
+use Rattle.genie_orderly.specs.Lemmas.AcceptedCalls.{IsAccepted, OnCall, accepted}
 
 wired_kept : (s t : State) → Keeps s t → WiredIsBounded s → WiredIsBounded t
 wired_kept s t k h = let less = remain_cost s.config.page k.left in rw (k.config) (omega (arith, less, h))

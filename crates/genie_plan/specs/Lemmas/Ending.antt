@@ -1,8 +1,8 @@
 -- Loans that end.
-use Rattle.std.proofs.Common.{map, drop, drop-cons, add-one, ◌≡◌, ◌≢◌, ℕ, ◌+◌, ◌-◌, ◌<◌, ◌≤◌, Bool, true, false, List, [], ◌∷◌, length, zero, suc, refl, ap, sym, ◌∙◌, subst, arith, get_or, set, rules, inl, inr, ◌⊎◌, length-set}
+use Rattle.std.proofs.Common.{map, drop, drop-cons, add-one, ◌≡◌, ◌≢◌, ℕ, ◌+◌, ◌-◌, ◌<◌, ◌≤◌, Bool, true, false, List, [], ◌∷◌, ◌++◌, length, zero, suc, refl, ap, sym, ◌∙◌, subst, arith, get_or, set, rules, inl, inr, ◌⊎◌, length-set}
 use Rattle.std.specs.Prelude.{◌==◌, ◌&&◌, count_by, if◌then◌else◌}
 use Rattle.std.proofs.lemmas.List.{get_or-set_same, get_or-set_other, set-set, drop_all, get_or-map, length-map}
-use Rattle.std.proofs.lemmas.List.Sums.{sum_by-cons}
+use Rattle.std.proofs.lemmas.List.Sums.{sum_by-cons, sum_by-append}
 use Rattle.genie_base.specs.Lemmas.Places.{same_or, num}
 use Rattle.genie_frame.specs.declared.frame.OutLoan.{OutLoan}
 use Rattle.genie_frame.specs.declared.frame.Owner.{Owner}
@@ -11,6 +11,7 @@ use Rattle.genie_frame.specs.declared.frame.Counts.{Counts}
 use Rattle.genie_frame.specs.FrameTable.{FrameTable, owner_at, counts_at, no_counts, is_lent, is_owned, is_system, set_owner, set_counts, IsShaped}
 use Rattle.genie_frame.specs.Frames.{unowned, left_to, loan_ended, outputs}
 use Rattle.genie_plan.specs.Loans.{LoanKind, Strong, Weak, Input, Loan, loan_times, is_kind, amount, one_less, less, AreOut, let_go, ended, all_ended, Ended, output_kind, output_loan, output_loans}
+use Rattle.genie_plan.specs.Ending.{LeavesOthersOut}
 use Rattle.genie_plan.specs.Lemmas.Ranges.{counted_there}
 
 -- how many loans are on a frame
@@ -328,3 +329,15 @@ outputs_are false c = refl
 
 pub output_out : (xs : List OutLoan) (old now : FrameTable) (i : ℕ) (d : OutLoan) → Ending (output_loans xs) old now i → i < length xs → 0 < outputs (get_or xs i d).strong (counts_at now (get_or xs i d).frame.0)
 output_out xs old now i d x l = subst (λ n. 0 < n) (outputs_are (get_or xs i d).strong (counts_at now (get_or xs i d).frame.0)) (loan_out output_loan xs old now i d x l)
+
+-- what is left of the loans of a kind
+less_amount : (loans : List Loan) (kind : LoanKind) (f : ℕ) (c : Counts) → amount kind (less loans f c) ≡ amount kind c - loan_times loans kind f
+less_amount loans Strong f c = refl
+less_amount loans Weak f c = refl
+less_amount loans Input f c = refl
+
+pub leaves_others_out : LeavesOthersOut
+leaves_others_out old new loans others x out kind f =
+    let all : loan_times (loans ++ others) kind f ≡ loan_times loans kind f + loan_times others kind f = sum_by-append (λ (loan : Loan). num (is_kind kind loan.kind && (loan.frame == f))) loans others in
+    let left = ap (amount kind) (x.counts f) ∙ less_amount loans kind f (counts_at old f) in
+    omega (arith, out kind f, all, left)

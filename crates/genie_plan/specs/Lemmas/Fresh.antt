@@ -1,5 +1,5 @@
 -- Fresh frames that are lent.
-use Rattle.std.proofs.Common.{length-append, ◌≡◌, ◌≢◌, ℕ, ◌+◌, ◌<◌, true, false, List, [], ◌∷◌, ◌++◌, length, zero, suc, refl, ap, sym, ◌∙◌, subst, arith, rules, inl, inr, ◌⊎◌, length-set}
+use Rattle.std.proofs.Common.{length-append, ◌≡◌, ◌≢◌, ℕ, ◌+◌, ◌*◌, ◌^◌, ◌<◌, ◌≤◌, true, false, List, [], ◌∷◌, ◌++◌, length, zero, suc, refl, ap, sym, ◌∙◌, subst, arith, rules, inl, inr, ◌⊎◌, length-set, get_or}
 use Rattle.std.specs.Prelude.{◌==◌, count_by, IsTrue}
 use Rattle.std.proofs.lemmas.List.{get_or-set_same, get_or-set_other, map-append}
 use Rattle.genie_base.specs.Lemmas.Places.{same_or, num, count_by-set, count_by-push}
@@ -9,7 +9,8 @@ use Rattle.genie_frame.specs.declared.frame.Counts.{Counts}
 use Rattle.genie_frame.specs.declared.frame.Meters.{Meters}
 use Rattle.genie_frame.specs.declared.frame.InLoan.{InLoan}
 use Rattle.genie_frame.specs.FrameTable.{FrameTable, owner_at, counts_at, no_counts, is_owned, is_system, is_free, AreLoansOwned}
-use Rattle.genie_plan.specs.Plans.{times, input_frames}
+use Rattle.genie_plan.specs.Plans.{times, input_frames, CanLand}
+use Rattle.genie_plan.specs.Lemmas.Ranges.{times_at}
 use Rattle.genie_plan.specs.Buffers.{taken_lent, AreLentFresh}
 
 -- a free frame has no loan
@@ -152,3 +153,12 @@ so_far_more owner loans items loan i old now new system counted x is l was e =
 
 pub so_far_none : (owner : Owner) (loans : List InLoan) (t : FrameTable) → loans ≡ [] → FreshSoFar owner (input_frames loans) 0 t t
 so_far_none owner loans t e = subst (λ (xs : List InLoan). FreshSoFar owner (input_frames xs) 0 t t) (sym e) (record { number = refl; fresh = fresh_none owner t })
+
+-- bytes may land in any range over fresh frames that are lent
+pub fresh_lands : (owner : Owner) (frames : List ℕ) (old new : FrameTable) (first len n : ℕ) → AreLentFresh owner frames old new → length frames ≡ n → first + len < 2 ^ 32 → (0 < len → first + len ≤ new.page * n) → CanLand new frames first len
+fresh_lands owner frames old new first len n x number fits within = record {
+  out = λ k l. omega (arith, ap (λ (c : Counts). c.input) (x.counts (get_or frames k 0)), times_at frames k l);
+  apart = x.apart;
+  within = λ p. subst (λ m. first + len ≤ new.page * m) (sym number) (within p);
+  fits = fits;
+}

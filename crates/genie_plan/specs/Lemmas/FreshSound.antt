@@ -9,9 +9,8 @@ use Rattle.genie_object.specs.declared.memory.Memory.{Memory}
 use Rattle.genie_object.specs.Objects.{entry_at}
 use Rattle.genie_object.specs.Memory.{is_kept, page_bytes}
 use Rattle.genie_object.specs.Sound.{IsSound, strong_at}
-use Rattle.genie_plan.specs.Plans.{times, CanLand}
+use Rattle.genie_plan.specs.Plans.{times}
 use Rattle.genie_plan.specs.Buffers.{AreLentFresh}
-use Rattle.genie_plan.specs.Lemmas.Ranges.{times_at}
 use Rattle.genie_plan.specs.Lemmas.Ending.{some_or}
 use Rattle.genie_plan.specs.Fresh.{ShowsBesides}
 
@@ -74,12 +73,4 @@ module _ (m : Memory) (t : FrameTable) (owner : Owner) (frames : List ℕ) (s : 
   fresh_shows = record {
     entries = λ slots k a b. let u : FrameTable = record { page = x.page k; owners = t.owners; counts = t.counts; bytes = x.bytes k; meters = t.meters; landed = t.landed } in page_bytes u m.pages.pages slots (entry_at m.objects a b).page;
     others = λ slots f z k. if is_kept (x.others f z k) (counts_else f z k) then get_or (x.bytes k) f [] else [];
-  }
-
-  pub fresh_land : (first len : ℕ) → first + len < 2 ^ 32 → (0 < len → first + len ≤ t.page * length frames) → CanLand t frames first len
-  fresh_land first len fits within = record {
-    out = λ k l. omega (arith, ap (λ (c : Counts). c.input) (x.counts (get_or frames k 0)), times_at frames k l);
-    apart = x.apart;
-    within = within;
-    fits = fits;
   }

@@ -1,5 +1,5 @@
 use Rattle.std.proofs.Common.{arith}
-use Rattle.genie_plan.specs.Lemmas.Fresh.{so_far_none, so_far_more}
+use Rattle.genie_plan.specs.Lemmas.Fresh.{so_far_none, so_far_more, fresh_lands}
 use Rattle.genie_plan.proofs.buffer.lend_fresh.Goals as goal
 
 pub each-init : goal.each-init
@@ -13,3 +13,6 @@ each-preserved g c = so_far_more c.args.owner c.each.loans.items c.push.new.self
 
 pub returns-clause-fresh : goal.returns-clause-fresh
 returns-clause-fresh g c = c.each.invariant.fresh
+
+pub returns-clause-ready : goal.returns-clause-ready
+returns-clause-ready g c first len fits within = fresh_lands c.args.owner _ c.args.frames.now c.each.frames first len c.args.n c.each.invariant.fresh (omega (arith, c.each.invariant.number)) fits within

@@ -12,14 +12,14 @@ lines-init g c = so_far_none c.args.flat.now _ c.args.before _ c.requires.machin
 pub returns-in-Err-Host-clause-played : goal.returns-in-Err-Host-clause-played
 returns-in-Err-Host-clause-played g c =
     let so = c.lines.invariant in
-    let stop = stopped_host _ so.last _ _ _ (rw (c.as_slice.ensures.bytes, c.in-Err-Host.field-0-is, so.machine_is) at c.in-Err-Host.ensures) in
+    let stop = stopped_host _ so.run.last _ _ _ (rw (c.as_slice.ensures.bytes, c.in-Err-Host.field-0-is, so.machine_is) at c.in-Err-Host.ensures) in
     at_host _ c.args.step c.args.line.now c.args.before _ _ _ _ _ _ c.lines.at _ stop.event so stop.how
     (left_next _ _ c.args.step c.args.line.now c.lines.line c.args.before c.lines.at so.done stop.event c.lines-test.true (rw c.in-Line.is at so.left) stop.is)
 
 pub returns-in-Err-Memory-clause-played : goal.returns-in-Err-Memory-clause-played
 returns-in-Err-Memory-clause-played g c =
     let so = c.lines.invariant in
-    let stop = stopped_memory _ so.last _ _ _ (rw (c.as_slice.ensures.bytes, c.in-Err-Memory.field-0-is, so.machine_is) at c.in-Err-Memory.ensures) in
+    let stop = stopped_memory _ so.run.last _ _ _ (rw (c.as_slice.ensures.bytes, c.in-Err-Memory.field-0-is, so.machine_is) at c.in-Err-Memory.ensures) in
     at_memory _ c.args.step c.args.line.now c.args.before _ _ _ _ _ _ c.lines.at _ so stop (some_left _ _ c.args.step c.args.line.now c.lines.step c.lines.line c.args.before c.lines.at so.done so.left)
 
 pub returns-in-Err-clause-played : goal.returns-in-Err-clause-played

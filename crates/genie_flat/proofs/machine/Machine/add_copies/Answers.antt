@@ -3,7 +3,7 @@ use Rattle.genie_model.specs.Regions.{regions_at}
 use Rattle.genie_model.specs.State.{State}
 use Rattle.genie_model.specs.Space.{add_region, copy_of}
 use Rattle.genie_flat.proofs.Copies.{copies_more}
-use Rattle.genie_model.specs.lemmas.RegionCounts.{added_few}
+use Rattle.genie_model.specs.Lemmas.RegionCounts.{added_few}
 use Rattle.genie_flat.proofs.machine.Machine.add_copies.Goals as goal
 
 pub loop-region-preserved : goal.loop-region-preserved

@@ -1,6 +1,6 @@
 use Rattle.std.proofs.Common.{◌≡◌, zero, suc, ◌-◌, true, false, sym, ◌∙◌, arith}
 use Rattle.genie_model.specs.Regions.{is_used}
-use Rattle.genie_model.specs.lemmas.FreshNumbers.{fresh_begins, fresh_found, fresh_goes_on, fresh_ends}
+use Rattle.genie_model.specs.Lemmas.FreshNumbers.{fresh_begins, fresh_found, fresh_goes_on, fresh_ends}
 use Rattle.genie_flat.proofs.machine.Machine.fresh.Goals as goal
 
 pub loop-number-init : goal.loop-number-init

@@ -2,7 +2,7 @@ use Rattle.genie_base.specs.Counts.{span, cost}
 use Rattle.genie_base.specs.Transfers.{class_of}
 use Rattle.genie_base.specs.declared.semantics.Direction.TheVariants.{Inward}
 use Rattle.genie_model.specs.Inputs.{address_or_zero}
-use Rattle.genie_model.specs.lemmas.Causes.{accepted_input}
+use Rattle.genie_model.specs.Lemmas.Causes.{accepted_input}
 use Rattle.genie_flat.proofs.machine.Machine.perform.Goals as goal
 
 pub returns-in-Alloc : goal.returns-in-Alloc

@@ -5,7 +5,7 @@ use Rattle.genie_base.specs.Transfers.{class_of}
 use Rattle.genie_base.specs.declared.semantics.Direction.TheVariants.{Inward}
 use Rattle.genie_model.specs.Refusing.{first_cause, target_causes, call_causes}
 use Rattle.genie_model.specs.Inputs.{address_or_zero}
-use Rattle.genie_model.specs.lemmas.Causes.{append_none, append_some}
+use Rattle.genie_model.specs.Lemmas.Causes.{append_none, append_some}
 use Rattle.genie_flat.proofs.machine.Machine.refuse_input.Goals as goal
 
 pub returns-in-Some : goal.returns-in-Some

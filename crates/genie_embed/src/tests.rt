@@ -1,0 +1,40 @@
+//! The quick start, run once.
+use crate::{EchoError, PacketHost, WornStore, echo, send_page};
+use genie_frame::{Frames, Owner};
+use genie_store::{Store, StoreFault};
+use std::process::Abort;
+
+// A datagram comes, and goes out again.
+#[test]
+fn a_datagram_is_sent_again(rt: HostRuntime) {
+    let record = b"GD\x00\x05\x00\x00\x00\x02\xaa\xbb";
+    let mut host = PacketHost::new(rt.alloc(), 64).expect(&rt, "memory");
+    assert_eq!(rt; echo(rt.alloc(), &mut host), Err(EchoError::Nothing));
+    host.receive(record).expect(&rt, "memory");
+    assert_eq!(rt; echo(rt.alloc(), &mut host), Ok(10));
+    assert_eq!(rt; host.sent(), record.as_slice());
+}
+
+// The second put fails, and the page that was put first is still there.
+#[test]
+fn a_store_wears_out(rt: HostRuntime) {
+    let mut store = WornStore::new(rt.alloc(), 1);
+    store.size(2, 16).expect(&rt, "memory");
+    assert_eq!(rt; store.put(1, &[7; 16]), Ok(()));
+    assert_eq!(rt; store.put(1, &[8; 16]), Err(StoreFault));
+    let mut page = [0; 16];
+    assert_eq!(rt; store.get(1, &mut page), Ok(()));
+    assert_eq!(rt; page, [7; 16]);
+}
+
+// A page is sent through a loan.
+#[test]
+fn a_page_is_lent(rt: HostRuntime) {
+    let mut frames = Frames::new(rt.alloc(), 4, 16).expect(&rt, "memory");
+    let f = frames.take(Owner::Page(0));
+    frames.write(f, 0, &[1, 2, 3]);
+    let mut device = [0; 3];
+    send_page(&mut frames, f, 3, &mut device);
+    assert_eq!(rt; device, [1, 2, 3]);
+    assert_eq!(rt; frames.meters().copied, 0);
+}
