@@ -97,7 +97,9 @@ fn run_booted<H: Host>(
         Err(_) => return Status::NoMemory,
     };
     match read_inputs(alloc, host, &mut flat, devices, SCRIPT) {
-        Ok(()) => run_started(host, script, line, buffers, &mut flat, devices, step, before),
+        Ok(()) => run_started(
+            host, script, line, buffers, &mut flat, devices, step, before,
+        ),
         Err(Unread::Host) => Status::HostFault,
         Err(Unread::Memory) => Status::NoMemory,
     }
@@ -118,14 +120,30 @@ fn replay<H: Host>(alloc: Global, host: &mut H, name: &[u8]) -> Status
     let mut script = Script::new();
     let mut line = LineBuffer::new();
     let mut buffers = Buffers::new();
-    let (part, step, before) = match read_boot(alloc, host, &mut script, &mut line, &mut buffers.said, name) {
+    let (part, step, before) = match read_boot(
+        alloc,
+        host,
+        &mut script,
+        &mut line,
+        &mut buffers.said,
+        name,
+    ) {
         Ok(BootRead::Whole(part, step, before)) => (part, step, before),
         Ok(BootRead::Refused(ending)) => return Status::of(ending),
         Ok(BootRead::NoMemory) => return Status::NoMemory,
         Err(_) => return Status::HostFault,
     };
     match open_files(host, part.devices()) {
-        Ok(()) => run_booted(alloc, host, &mut script, &mut line, &mut buffers, &part, step, before),
+        Ok(()) => run_booted(
+            alloc,
+            host,
+            &mut script,
+            &mut line,
+            &mut buffers,
+            &part,
+            step,
+            before,
+        ),
         Err(OpenRefused::Memory) => Status::NoMemory,
         Err(OpenRefused::Failed) => Status::HostFault,
     }

@@ -74,10 +74,12 @@ fn runs_so(
 ) -> Result<bool, NoMemory> {
     let mut host = host_with(alloc, script, trouble)?;
     let status = run_words(alloc, &mut host, words)?;
-    Ok(status == ends.status
-        && is_written(&host, b"", ends.replies)
-        && is_written(&host, b"o0", ends.sent[0])
-        && is_written(&host, b"o1", ends.sent[1]))
+    Ok(
+        status == ends.status
+            && is_written(&host, b"", ends.replies)
+            && is_written(&host, b"o0", ends.sent[0])
+            && is_written(&host, b"o1", ends.sent[1]),
+    )
 }
 
 const REPLAY: &[&str] = &["replay", "s"];
@@ -188,7 +190,15 @@ fn lines_at_the_longest(rt: HostRuntime) -> Result<(), Fail> {
     for (count, status) in [(8300, Status::Done), (8301, Status::TooLong)] {
         let script = with_comment(rt.alloc(), count)?;
         let ends = quiet(status, b"ok\n");
-        assert!(rt; runs_so(rt.alloc(), REPLAY, script.as_slice(), Trouble::Nothing, &ends)?);
+        assert!(rt;
+            runs_so(
+                rt.alloc(),
+                REPLAY,
+                script.as_slice(),
+                Trouble::Nothing,
+                &ends
+            )?
+        );
     }
     Ok(())
 }
@@ -208,7 +218,10 @@ const TROUBLES: &[(Trouble, &[u8])] = &[
     (Trouble::FailAt(b"s", 40), b""),
     (Trouble::FailAt(b"s", 55), b"ok\nok\n"),
     (Trouble::FailAt(b"", 5), b"ok\nok"),
-    (Trouble::FailAt(b"o0", 0), b"ok\nok\nok\nok\nid 1\nsent 10\nout 2\n"),
+    (
+        Trouble::FailAt(b"o0", 0),
+        b"ok\nok\nok\nok\nid 1\nsent 10\nout 2\n",
+    ),
     (Trouble::Refuse(b"s"), b""),
     (Trouble::Refuse(b"o0"), b""),
 ];

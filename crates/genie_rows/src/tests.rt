@@ -3,7 +3,7 @@ ghost use Rattle.std.specs.Prelude.{◌≡◌, ◌<◌, ◌≤◌, ◌+◌, [], 
 
 use crate::marked::{MarkedRow, failures};
 use crate::rows::{Row, accesses, devices, inputs, limits, modes, moves, outputs};
-use genie_base::{Config, DeviceConfig, Kind, Mark, NoMemory};
+use genie_base::{Config, DeviceConfig, Kind, Mark, NoMemory, PageBuffer};
 use genie_flat::Flat;
 use genie_host::{Host, MemoryHost};
 use genie_orderly::laws;
