@@ -1,6 +1,6 @@
 -- Frames that are wired, and unwired.
 use Rattle.std.specs.Prelude.{◌≡◌, ℕ, ◌+◌, ◌-◌, ◌^◌, ◌<◌, true, ⊤, List, [], ◌∷◌, length}
-use Rattle.genie_frame.specs.FrameTable.{FrameTable, counts_at, set_counts, is_held, IsShaped}
+use Rattle.genie_frame.specs.FrameTable.{FrameTable, counts_at, set_counts, is_held}
 use Rattle.genie_frame.specs.Frames.{one_wire_more, one_wire_less}
 use Rattle.genie_object.specs.declared.memory.Memory.{Memory}
 use Rattle.genie_object.specs.Memory.{seen}

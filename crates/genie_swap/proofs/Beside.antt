@@ -1,10 +1,10 @@
 -- A swap leaves the others as they were.
-use Rattle.std.proofs.Common.{◌≡◌, ◌≢◌, ℕ, ◌+◌, ◌<◌, ◌≤◌, Bool, true, false, List, length, refl, ap, sym, ◌∙◌, subst, arith, rules, length-set}
-use Rattle.std.specs.Prelude.{◌==◌, ◌&&◌, count_by, Option, Some, None}
+use Rattle.std.proofs.Common.{◌≡◌, ℕ, ◌<◌, Bool, true, false, List, length, refl, ap, sym, ◌∙◌, subst, arith, rules, length-set}
+use Rattle.std.specs.Prelude.{◌==◌, ◌&&◌, Option, Some, None}
 use Rattle.std.proofs.lemmas.List.{get_or-set_other}
 use Rattle.genie_base.specs.Lemmas.Places.{num, count_by-set}
 use Rattle.genie_frame.specs.declared.frame.Owner.TheVariants.{Free, Page}
-use Rattle.genie_frame.specs.FrameTable.{owner_at, counts_at, is_held}
+use Rattle.genie_frame.specs.FrameTable.{counts_at, is_held}
 use Rattle.genie_object.specs.declared.memory.Memory.{Memory}
 use Rattle.genie_object.specs.declared.pages.PageId.{PageId}
 use Rattle.genie_object.specs.declared.pages.PageInfo.{PageInfo}

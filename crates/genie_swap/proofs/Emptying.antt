@@ -28,7 +28,7 @@ use Rattle.genie_object.specs.Touching.{Touches, Lasts, IsOutside, is_entry}
 use Rattle.genie_object.specs.Lemmas.Touching.{touches_none}
 use Rattle.genie_swap.specs.Beside.{LeavesOthers}
 use Rattle.genie_swap.specs.Entries.{emptied, frames_left, slots_left, is_last, left_by, emptied_entry, IsUnheld, see_gone, IsEmptied}
-use Rattle.genie_object.specs.Lemmas.Naming.{object_in, named_set, same_entry, entry_here, entry_else, names_own, names_other, named_shared, named_once}
+use Rattle.genie_object.specs.Lemmas.Naming.{named_set, same_entry, entry_here, entry_else, names_own, names_other, named_shared, named_once}
 use Rattle.genie_swap.proofs.Filling.{both_tests, system_page}
 
 -- what the frames keep

@@ -1,5 +1,5 @@
 -- Fresh frames that are lent leave a memory sound.
-use Rattle.std.proofs.Common.{◌≡◌, ℕ, ◌+◌, ◌*◌, ◌^◌, ◌<◌, ◌≤◌, true, false, List, [], length, ap, sym, ◌∙◌, arith, rules, get_or, inl, inr}
+use Rattle.std.proofs.Common.{◌≡◌, ℕ, ◌+◌, ◌<◌, true, false, List, [], ap, sym, ◌∙◌, arith, rules, get_or, inl, inr}
 use Rattle.std.specs.Prelude.{if◌then◌else◌}
 use Rattle.genie_frame.specs.declared.frame.Owner.{Owner}
 use Rattle.genie_frame.specs.declared.frame.Owner.TheVariants.{Free, Page}

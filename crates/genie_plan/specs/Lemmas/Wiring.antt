@@ -1,18 +1,18 @@
 -- Wires that are put on frames and taken off.
-use Rattle.std.proofs.Common.{◌≡◌, ◌≢◌, ℕ, ◌+◌, ◌-◌, ◌^◌, ◌<◌, ◌≤◌, true, false, List, [], ◌∷◌, length, refl, ap, sym, ◌∙◌, subst, arith, rules, get_or, set, inl, inr, ◌⊎◌, length-set}
+use Rattle.std.proofs.Common.{◌≡◌, ◌≢◌, ℕ, ◌+◌, ◌-◌, ◌^◌, ◌<◌, ◌≤◌, true, List, [], ◌∷◌, length, refl, ap, sym, ◌∙◌, arith, get_or, set, inl, inr, length-set}
 use Rattle.std.specs.Prelude.{if◌then◌else◌}
 use Rattle.std.proofs.lemmas.List.{get_or-set_same, get_or-set_other}
 use Rattle.genie_base.specs.Lemmas.Places.{same_or}
 use Rattle.genie_frame.specs.declared.frame.Owner.{Owner}
 use Rattle.genie_frame.specs.declared.frame.Owner.TheVariants.{Free, Page, System, Pool, Nobody}
 use Rattle.genie_frame.specs.declared.frame.Counts.{Counts}
-use Rattle.genie_frame.specs.FrameTable.{FrameTable, owner_at, counts_at, bytes_at, no_counts, is_held, is_lent, is_system}
+use Rattle.genie_frame.specs.FrameTable.{FrameTable, owner_at, counts_at, no_counts, is_held, is_lent, is_system}
 use Rattle.genie_frame.specs.Frames.{one_wire_more, one_wire_less}
 use Rattle.genie_object.specs.declared.memory.Memory.{Memory}
 use Rattle.genie_object.specs.Objects.{entry_at}
-use Rattle.genie_object.specs.Memory.{seen, is_kept, page_bytes}
+use Rattle.genie_object.specs.Memory.{is_kept, page_bytes}
 use Rattle.genie_object.specs.Sound.{IsSound, strong_at}
-use Rattle.genie_object.specs.Touching.{KeepsLoans, system_owner}
+use Rattle.genie_object.specs.Touching.{system_owner}
 use Rattle.genie_plan.specs.Plans.{times}
 use Rattle.genie_plan.specs.Wiring.{wired, unwired, all_wired, all_unwired, CanWire, CanUnwire, OnlyWires, Wired, Unwired, KeepsAll, WiresKeep, UnwiresKeep}
 use Rattle.genie_plan.specs.Lemmas.Ranges.{times-cons, same_num, other_num, counted_there}
