@@ -26,7 +26,7 @@ use Rattle.genie_fault.proofs.Resolved.{can_rename}
 pub brings_framed : (m : Memory) (o i f : ℕ) → entry_frame m o i ≡ Some f → BringsIn m m.frames o i f
 brings_framed m o i f e = record {
   fresh = λ none. let bad : None ≡ Some f = sym none ∙ e in cc;
-  stays = λ g w. refl;
+  stays = λ g w. let two : Some f ≡ Some g = sym e ∙ w in (cc, refl);
   owners = λ g w. refl;
 }
 

@@ -99,11 +99,11 @@ pub record IsResolved (old new : Memory) (v : StoreView) (o i : ℕ) (f : FrameI
   pub pages : count_by is_there new.pages.pages ≤ count_by is_there old.pages.pages + 1
   pub costs : CostsNoMore old new
 
--- a page that was in no frame came into one without a loan, a page in a frame left all frames as they were, and no frame
--- that somebody had changed its owner
+-- a page that was in no frame came into one without a loan, a page in a frame stayed there and left all frames as they
+-- were, and no frame that somebody had changed its owner
 pub record BringsIn (old : Memory) (new : FrameTable) (o i f : ℕ) : Type 0 where
   pub fresh : entry_frame old o i ≡ None → is_lent (counts_at old.frames f) ≡ false
-  pub stays : (g : ℕ) → entry_frame old o i ≡ Some g → new ≡ old.frames
+  pub stays : (g : ℕ) → entry_frame old o i ≡ Some g → (f ≡ g) × (new ≡ old.frames)
   pub owners : (g : ℕ) → is_free (owner_at old.frames g) ≡ false → owner_at new g ≡ owner_at old.frames g
 
 -- what a call that has resolved an entry for reading leaves

@@ -1,0 +1,17 @@
+pub mod Claimed
+pub mod CopiedPages
+pub mod Copying
+pub mod Counting
+pub mod Holding
+pub mod Later
+pub mod Lent
+pub mod LentStrongly
+pub mod LentWeakly
+pub mod More
+pub mod Owned
+pub mod PageFrames
+pub mod PlaceOf
+pub mod Ready
+pub mod TakenBack
+pub mod Totals
+pub mod Within

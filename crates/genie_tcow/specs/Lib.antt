@@ -1,0 +1,4 @@
+pub mod Costs
+pub mod Laws
+pub mod Lending
+pub mod Ranges
