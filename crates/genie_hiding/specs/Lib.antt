@@ -1,1 +1,8 @@
+pub mod Discarding
+pub mod Hidden
+pub mod Leaving
+pub mod Lemmas
+pub mod Marking
 pub mod Queues
+pub mod Rooms
+pub mod Trimming
