@@ -1,0 +1,11 @@
+pub mod Completed
+pub mod Copying
+pub mod Looping
+pub mod Moving
+pub mod Ranging
+pub mod Readying
+pub mod Staying
+pub mod Stored
+pub mod Storing
+pub mod Swapped
+pub mod Tabling

@@ -1,0 +1,5 @@
+pub mod Lent
+pub mod Ready
+pub mod Back
+pub mod Pools
+pub mod Buffers
