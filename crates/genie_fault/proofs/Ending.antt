@@ -3,7 +3,6 @@ use Rattle.std.proofs.Common.{◌≡◌, ℕ, Bool, refl, arith, ap, sym, ◌∙
 use Rattle.std.specs.Prelude.{Result}
 use Rattle.std.specs.Option.{option_map}
 use Rattle.genie_frame.specs.declared.frame.FrameId.{FrameId}
-use Rattle.genie_frame.specs.declared.frame.Meters.{Meters}
 use Rattle.genie_store.specs.StoreView.{StoreView}
 use Rattle.genie_object.specs.declared.memory.Memory.{Memory}
 use Rattle.genie_object.specs.Memory.{seen}

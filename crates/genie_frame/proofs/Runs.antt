@@ -1,12 +1,6 @@
 -- An element of a list that is made of another, through two parts of the list.
-use Rattle.std.proofs.Common.{subst, ◌≡◌, ◌<◌, ℕ, ◌+◌, ◌≤◌, suc, zero, List, [], ◌∷◌, ◌++◌, length, take, drop, set, get_or, refl, ap, sym, ◌∙◌, arith, append_assoc, length-take, length-drop, take-append-drop, get_or-take, get_or-drop}
-use Rattle.std.proofs.lemmas.List.{drop-drop}
-use Rattle.std.proofs.lemmas.List.Edits.{paste_all}
-use Rattle.std.proofs.lemmas.Slice.{put_mid-paste}
-use borrow.Rule.Slice.PartMut.{put_mid}
+use Rattle.std.proofs.Common.{◌≡◌, ◌<◌, ℕ, suc, zero, List, [], ◌∷◌, ◌++◌, length, take, drop, set, get_or, refl, ap, ◌∙◌, arith, take-append-drop, get_or-take, get_or-drop}
 use Rattle.std.proofs.lemmas.Grind.{common_steps}
-use Rattle.genie_base.specs.Bytes.{overlaid, part}
-use Rattle.genie_base.specs.Lemmas.Overlaid.{overlaid-pieces}
 
 write_at_split : {X : Type 0} (xs : List X) (k : ℕ) (y : X) → k < length xs → take k xs ++ set (drop k xs) 0 y ≡ set xs k y
 write_at_split [] k y h = absurd (omega arith)

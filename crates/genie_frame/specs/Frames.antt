@@ -1,5 +1,5 @@
 -- What each call does to the frames.
-use Rattle.std.specs.Prelude.{◌≡◌, ℕ, ◌+◌, ◌-◌, ◌≤◌, ◌==◌, Bool, true, false, List, length, count_by, slice_index_or, if◌then◌else◌}
+use Rattle.std.specs.Prelude.{ℕ, ◌+◌, ◌-◌, ◌≤◌, Bool, true, false, List, length, if◌then◌else◌}
 use Rattle.genie_base.specs.FreeLists.{IsFreeList}
 use Rattle.genie_base.specs.Bytes.{overlaid}
 use Rattle.genie_frame.specs.declared.frame.Owner.{Owner}

@@ -1,18 +1,18 @@
 -- What a step of a memory keeps, and what it shows.
-use Rattle.std.specs.Prelude.{◌≡◌, ◌≢◌, ℕ, ◌<◌, true, false, IsTrue, List, [], Some, length, if◌then◌else◌}
+use Rattle.std.specs.Prelude.{◌≡◌, ◌≢◌, ℕ, ◌<◌, false, IsTrue, List, [], Some, length, if◌then◌else◌}
 use Rattle.genie_base.specs.Bytes.{overlaid}
 use Rattle.genie_frame.specs.declared.frame.Counts.{Counts}
 use Rattle.genie_frame.specs.declared.frame.FrameId.{FrameId}
 use Rattle.genie_frame.specs.declared.frame.Owner.{Owner}
 use Rattle.genie_frame.specs.declared.frame.Owner.TheVariants.{Free, Page, Nobody}
-use Rattle.genie_frame.specs.FrameTable.{FrameTable, owner_at, counts_at, bytes_at, is_owned, is_held, is_lent, is_page, set_owner, set_counts, IsShaped, AreLoansOwned}
+use Rattle.genie_frame.specs.FrameTable.{FrameTable, owner_at, counts_at, bytes_at, is_owned, is_lent, is_page, set_owner, set_counts, IsShaped, AreLoansOwned}
 use Rattle.genie_frame.specs.Frames.{stored, unowned, left_to, loan_ended, one_strong_more, more_taken}
 use Rattle.genie_object.specs.declared.pages.PageId.{PageId}
 use Rattle.genie_object.specs.declared.pages.Place.TheVariants.{Frame}
 use Rattle.genie_object.specs.declared.memory.Memory.{Memory}
 use Rattle.genie_object.specs.Pages.{page_at}
 use Rattle.genie_object.specs.Objects.{entry_at}
-use Rattle.genie_object.specs.Memory.{Seen, seen, see_entry, see_kept, is_kept, entry_frame}
+use Rattle.genie_object.specs.Memory.{Seen, seen, see_entry, see_kept, is_kept}
 use Rattle.genie_object.specs.Sound.{IsSound, strong_at}
 
 -- the entry's page is its own and in the frame, which has no strong loan

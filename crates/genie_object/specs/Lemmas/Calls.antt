@@ -1,5 +1,5 @@
 -- One call after another that only moves pages.
-use Rattle.std.proofs.Common.{◌≡◌, ℕ, ◌+◌, Bool, false, refl, arith, ap, ◌∙◌}
+use Rattle.std.proofs.Common.{◌≡◌, ℕ, ◌+◌, Bool, false, refl, arith, ◌∙◌}
 use Rattle.genie_store.specs.StoreView.{StoreView}
 use Rattle.genie_object.specs.declared.memory.Memory.{Memory}
 use Rattle.genie_object.specs.Sound.{IsSound, IsSized}

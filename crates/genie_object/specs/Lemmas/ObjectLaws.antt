@@ -9,7 +9,6 @@ use Rattle.std.specs.List.{range_with_len}
 use Rattle.genie_base.specs.FreeLists.{FreeNumbers, IsFreeList}
 use Rattle.genie_base.specs.Lemmas.Places.{any_default, past_end, set_at, num}
 use Rattle.genie_base.specs.Lemmas.FreeLists.{all_listed, last_there, last_free, popped, listed_set, one_spare}
-use Rattle.genie_object.specs.Lemmas.Entries.{entry_in}
 use Rattle.genie_object.specs.declared.objects.Entry.{Entry}
 use Rattle.genie_object.specs.Objects.{AreListed, is_absent, no_entry, object_at}
 

@@ -1,6 +1,6 @@
 -- Memory that isn't used yet, and an object that is made.
-use Rattle.std.proofs.Common.{◌≡◌, ℕ, ◌+◌, ◌<◌, ◌≤◌, zero, suc, true, false, List, [], ◌∷◌, refl, sym, ap, subst, arith, ◌∙◌, length, replicate, get_or, set, inl, inr, length-set}
-use Rattle.std.specs.Prelude.{Option, Some, None, Bool, IsTrue, All, count_by, sum_by, cond, if◌then◌else◌}
+use Rattle.std.proofs.Common.{◌≡◌, ℕ, ◌+◌, ◌<◌, ◌≤◌, zero, suc, false, List, [], ◌∷◌, refl, sym, ap, subst, arith, ◌∙◌, length, replicate, get_or, set, inl, inr}
+use Rattle.std.specs.Prelude.{Bool, IsTrue, All, count_by, cond, if◌then◌else◌}
 use Rattle.std.proofs.lemmas.List.{length-replicate}
 use Rattle.std.proofs.lemmas.List.Sums.{sum_by-cons}
 use Rattle.std.proofs.lemmas.List.Elements.{All-replicate}
@@ -9,11 +9,11 @@ use Rattle.genie_base.specs.Counts.{is_page_size}
 use Rattle.genie_base.specs.Lemmas.Places.{set_at, sum_by-set}
 use Rattle.genie_frame.specs.declared.frame.Owner.TheVariants.{Free}
 use Rattle.genie_frame.specs.declared.frame.Counts.{Counts}
-use Rattle.genie_frame.specs.FrameTable.{FrameTable, is_lent, free_frames, no_counts, owner_at, counts_at, IsShaped}
+use Rattle.genie_frame.specs.FrameTable.{FrameTable, is_lent, no_counts, owner_at, counts_at, IsShaped}
 use Rattle.genie_object.specs.declared.memory.Memory.{Memory}
 use Rattle.genie_object.specs.declared.objects.Entry.{Entry}
 use Rattle.genie_object.specs.declared.pages.PageInfo.{PageInfo}
-use Rattle.genie_object.specs.Memory.{seen, page_bytes, is_kept}
+use Rattle.genie_object.specs.Memory.{seen, page_bytes}
 use Rattle.genie_object.specs.Objects.{entry_at, object_at, no_entry, names}
 use Rattle.genie_object.specs.Pages.{page_at, no_page}
 use Rattle.genie_object.specs.Sound.{IsSound, IsUnused, is_in_slot, times_named}

@@ -1,5 +1,5 @@
 -- What it costs to write in entries, one after another.
-use Rattle.std.proofs.Common.{◌≡◌, ℕ, ◌<◌, ◌≤◌, ◌+◌, ◌*◌, suc, zero, true, false, refl, arith, rules, inl, inr}
+use Rattle.std.proofs.Common.{◌≡◌, ℕ, ◌≤◌, ◌+◌, ◌*◌, suc, zero, true, false, refl, arith, rules, inl, inr}
 use Rattle.std.specs.Prelude.{IsTrue, if◌then◌else◌}
 use Rattle.genie_base.specs.Counts.{is_page_size}
 use Rattle.genie_base.specs.Lemmas.Places.{same_or}

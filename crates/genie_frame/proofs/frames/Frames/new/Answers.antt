@@ -1,6 +1,5 @@
-use Rattle.std.proofs.Common.{◌≡◌, ◌≤◌, refl, ap, arith, subst, sym}
+use Rattle.std.proofs.Common.{refl, ap, arith, subst, sym}
 use Rattle.std.specs.Prelude.{replicate}
-use Rattle.std.specs.List.{range_with_len}
 use Rattle.genie_base.specs.FreeLists.{FreeNumbers, IsFreeList}
 use Rattle.genie_base.specs.Lemmas.FreeLists.{all_listed}
 use Rattle.genie_frame.specs.declared.frame.Owner.TheVariants.{Free, Nobody}

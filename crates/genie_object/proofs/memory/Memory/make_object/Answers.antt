@@ -1,7 +1,3 @@
-use Rattle.std.proofs.Common.{ap, subst, sym}
-use Rattle.genie_object.specs.declared.memory.Memory.{Memory}
-use Rattle.genie_object.specs.Memory.{seen}
-use Rattle.genie_object.specs.Sound.{IsSound}
 use Rattle.genie_object.specs.Lemmas.Unused.{number_made, sound_made, seen_made}
 use Rattle.genie_object.proofs.memory.Memory.make_object.Goals as goal
 

@@ -1,4 +1,3 @@
-use Rattle.std.proofs.Common.{◌≡◌, ◌+◌, refl, ◌∙◌}
 use Rattle.genie_object.specs.Lemmas.Unused.{unused_sound}
 use Rattle.genie_object.proofs.memory.Memory.new.Goals as goal
 
