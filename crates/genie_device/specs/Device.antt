@@ -132,10 +132,10 @@ pub record ReceivesHeader (n : ℕ) (old new : HostView) (before after : DeviceV
   pub device : after ≡ after_header end (before.gathered ++ taken) before
 
 -- A step of a payload.
-pub record ReceivesBody (n : ℕ) (old new : HostView) (before after : DeviceView) (content content' : List ℕ) (moved : ℕ) (end : BodyEnd) : Type 0 where
+pub record ReceivesBody (n : ℕ) (old new : HostView) (before after : DeviceView) (content content_now : List ℕ) (moved : ℕ) (end : BodyEnd) : Type 0 where
   pub taken : List ℕ
   pub takes : TakesPayload (handle_of before.config.input) (left_of before.present) n old new taken moved end
-  pub landed : content' ≡ landing_after (buffer_of before.present) (moved_of before.present) taken content
+  pub landed : content_now ≡ landing_after (buffer_of before.present) (moved_of before.present) taken content
   pub device : after ≡ after_body taken before
 
 -- whether a step stages: on an outboard device, as long as some of the payload isn't staged

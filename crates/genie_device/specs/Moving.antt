@@ -17,8 +17,8 @@ abbrev pub HasPlace : Present → List BufferView → Type 0
 HasPlace p buffers = IfSome p.buffer (λ k. HasRoom (p.header.len - p.moved) (slice_index_or buffers k no_buffer))
 
 -- payload bytes are taken from a handle, and stand in the landing or in the buffer
-pub record Moves (handle n : ℕ) (old new : HostView) (p : Present) (before after : List BufferView) (content content' : List ℕ) (moved : ℕ) (end : BodyEnd) : Type 0 where
+pub record Moves (handle n : ℕ) (old new : HostView) (p : Present) (before after : List BufferView) (content content_now : List ℕ) (moved : ℕ) (end : BodyEnd) : Type 0 where
   pub taken : List ℕ
   pub takes : TakesPayload handle (p.header.len - p.moved) n old new taken moved end
-  pub landed : content' ≡ landing_after p.buffer p.moved taken content
+  pub landed : content_now ≡ landing_after p.buffer p.moved taken content
   pub buffers : after ≡ filled p.buffer taken before
