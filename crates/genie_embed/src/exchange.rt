@@ -30,8 +30,8 @@ pub enum EchoError {
     Nothing,
 }
 
-// Pages of 16 bytes, 32 frames, and one early device, whose handles are those of the host.
-fn config() -> Config
+/// Pages of 16 bytes, 32 frames, and one early device, whose handles are those of the host.
+pub fn config() -> Config
     ensures { Fits (config_of result) }
 {
     let device = DeviceConfig {

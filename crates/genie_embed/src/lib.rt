@@ -3,6 +3,7 @@
 #![tactic(auto)]
 
 pub mod exchange;
+pub mod guide;
 pub mod lending;
 pub mod machine;
 pub mod packets;
@@ -11,6 +12,7 @@ mod tests;
 pub mod worn;
 
 pub use crate::exchange::{EchoError, echo};
+pub use crate::guide::{lend_three, send_again, send_two};
 pub use crate::lending::send_page;
 pub use crate::machine::{Machine, Stopped};
 pub use crate::packets::{PacketHost, RECEIVED, SENT};

@@ -1,5 +1,5 @@
 //! The quick start, run once.
-use crate::{EchoError, PacketHost, WornStore, echo, send_page};
+use crate::{EchoError, PacketHost, WornStore, echo, lend_three, send_again, send_page, send_two};
 use genie_frame::{Frames, Owner};
 use genie_store::{Store, StoreFault};
 use std::process::Abort;
@@ -37,4 +37,14 @@ fn a_page_is_lent(rt: HostRuntime) {
     send_page(&mut frames, f, 3, &mut device);
     assert_eq!(rt; device, [1, 2, 3]);
     assert_eq!(rt; frames.meters().copied, 0);
+}
+
+// The code of the guide.
+#[test]
+fn the_guide_runs(rt: HostRuntime) {
+    assert_eq!(rt; send_again(rt.alloc()), Ok(true));
+    assert_eq!(rt; send_two(rt.alloc()), Ok(10));
+    let mut device = [0; 3];
+    assert_eq!(rt; lend_three(rt.alloc(), &mut device), Ok(4));
+    assert_eq!(rt; device, [1, 2, 3]);
 }
