@@ -233,6 +233,11 @@ receives_for (Some v) = option_and_then (λ (g : Datagram). matched_to g.fate) v
 abbrev pub MovingAreReceived : State → Type 0
 MovingAreReceived s = All (λ (t : Transfer). is_moving t.phase ≡ true → receives_for (entry s.devices t.device) ≡ Some t.number) s.transfers
 
+-- and as long as its device receives such a datagram, it is: a pending input that a datagram was matched to is a receiving
+-- one, and the other way round
+abbrev pub ReceivedAreMoving : State → Type 0
+ReceivedAreMoving s = All (λ (t : Transfer). receives_for (entry s.devices t.device) ≡ Some t.number → is_moving t.phase ≡ true) s.transfers
+
 -- an early device matches a datagram or skips it, and another one gathers it
 abbrev pub may_become : Kind → Fate → Bool
 may_become kind Skipped = is_early kind
@@ -333,5 +338,6 @@ pub record IsOrderly (s : State) : Type 0 where
   pub calls : AreTransfers s
   pub queues : OneIsSent s
   pub moving : MovingAreReceived s
+  pub received : ReceivedAreMoving s
   pub datagrams : DatagramsSuit s
   pub depths : DepthsAreKept s

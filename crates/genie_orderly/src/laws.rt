@@ -1,6 +1,6 @@
 //! What every step keeps, and what is so of every state that a run reaches.
 ghost use Rattle.std.specs.Prelude.{◌≡◌, length};
-ghost use Rattle.genie_orderly.specs.Orderly.{RegionsAreApart, WiredIsBounded, CommittedIsBounded, NumbersRise, NumbersDiffer, NumbersAreBelow, BuffersAreFilled, QueuesListOut, OrphansAreNamed, OrphansRise, OrphanPlacesRise, OrphansAreTidy, RangesLie, HeldForOne, PostedAreInputs, MatchedAreInputs, DevicesAreConfigs, AreTransfers, OneIsSent, MovingAreReceived, DatagramsSuit, DepthsAreKept, IsOrderly};
+ghost use Rattle.genie_orderly.specs.Orderly.{RegionsAreApart, WiredIsBounded, CommittedIsBounded, NumbersRise, NumbersDiffer, NumbersAreBelow, BuffersAreFilled, QueuesListOut, OrphansAreNamed, OrphansRise, OrphanPlacesRise, OrphansAreTidy, RangesLie, HeldForOne, PostedAreInputs, MatchedAreInputs, DevicesAreConfigs, AreTransfers, OneIsSent, MovingAreReceived, ReceivedAreMoving, DatagramsSuit, DepthsAreKept, IsOrderly};
 ghost use Rattle.genie_orderly.specs.Steps.{Stays, StepsGrow, StepsKeepConfig, PlainStepsShowNoFault, BootIsOrderly, RunsStayOrderly};
 
 /// In a step devices keep their kinds and depths, what they have sent stays sent, and the number of the next transfer stays
@@ -140,6 +140,11 @@ pub fn one_is_sent()
 /// An input is receiving only while its device receives a datagram that was matched to it.
 pub fn moving_are_received()
     ensures { Stays MovingAreReceived }
+{}
+
+/// While a device receives a datagram that was matched to a pending input, that input is receiving.
+pub fn received_are_moving()
+    ensures { Stays ReceivedAreMoving }
 {}
 
 /// An early device matches or skips datagrams, another one gathers them, and none is longer than its device takes.

@@ -14,7 +14,7 @@ use Rattle.genie_base.specs.Posted.{meets, meets_flow}
 use Rattle.genie_model.specs.declared.fate.Fate.{Fate}
 use Rattle.genie_model.specs.declared.fate.Fate.TheVariants.{Matched, Skipped, Gathering}
 use Rattle.genie_model.specs.declared.phase.Phase.TheVariants.{Moving, Ready}
-use Rattle.genie_orderly.specs.Orderly.{IsInput, GoesToInput, IsUnderWay, ReceivesForInput, has_phase, IsTransfer, WaitsBehind, matched_to, receives_for, SuitsDevice, on_its_way, KeepsDepth, IsOrderly}
+use Rattle.genie_orderly.specs.Orderly.{IsInput, GoesToInput, IsUnderWay, ReceivesForInput, has_phase, IsTransfer, WaitsBehind, matched_to, receives_for, MovingAreReceived, ReceivedAreMoving, SuitsDevice, on_its_way, KeepsDepth, IsOrderly}
 use Rattle.genie_model.specs.State.{State, Transfer, Device, Datagram}
 use Rattle.genie_model.specs.Tables.{entry}
 use Rattle.genie_model.specs.Pending.{is_early, is_inward, is_posted, is_queued, is_moving, is_ready, is_numbered, posted_for, awaits, pending, first_posted, has_arrived, arrived}
@@ -39,9 +39,10 @@ pub record IsKnown (s : State) (t : Transfer) : Type 0 where
 abbrev aimed : State → ℕ → Option ℕ → ℕ → Option ℕ
 aimed s d aim e = if e == d then aim else receives_for (entry s.devices e)
 
--- it is receiving only where its device receives for it
-abbrev Aims : State → ℕ → Option ℕ → Transfer → Type 0
-Aims s d aim u = is_moving u.phase ≡ true → aimed s d aim u.device ≡ Some u.number
+-- it is receiving just where its device receives for it
+record Aims (s : State) (d : ℕ) (aim : Option ℕ) (u : Transfer) : Type 0 where
+  received : is_moving u.phase ≡ true → aimed s d aim u.device ≡ Some u.number
+  moving : aimed s d aim u.device ≡ Some u.number → is_moving u.phase ≡ true
 
 -- what a device has under way goes to an input of state s, and suits it
 record Fits (s : State) (e : ℕ) (v : Option Device) : Type 0 where
@@ -68,7 +69,8 @@ pub record Ends (s t : State) : Type 0 where
   pub next : t.next ≡ s.next
   pub transfers : All (IsKnown s) t.transfers
   pub queues : AllPairs WaitsBehind t.transfers
-  pub moving : All (λ (u : Transfer). is_moving u.phase ≡ true → receives_for (entry t.devices u.device) ≡ Some u.number) t.transfers
+  pub moving : MovingAreReceived t
+  pub received : ReceivedAreMoving t
   pub goes : (e : ℕ) → ReceivesForInput s e (entry t.devices e)
   pub suits : (e : ℕ) → IfSome (entry t.devices e) (λ (w : Device). IfSome w.present (SuitsDevice s.config.page w))
   pub depths : (e : ℕ) → KeepsDepth (arrived t e) (entry t.devices e)
@@ -137,8 +139,23 @@ pub less_depth : (m n : ℕ) (v : Option Device) → m ≤ n → KeepsDepth n v 
 less_depth m n None less h = tt
 less_depth m n (Some v) less h = λ early. let fits = h early in omega (arith, less, fits)
 
+-- where a device is said to receive for an input, or for none
+module _ (s : State) (d k : ℕ) where
+  no_aim : (e n : ℕ) (b : Bool) → (e == d) ≡ b → (n == k) ≡ false → aimed s d (Some k) e ≡ Some n → aimed s d None e ≡ Some n
+  no_aim e n true y other h =
+      let same : Some k ≡ Some n = sym (rw y refl) ∙ h in
+      absurd (true≢false (sym (eq-eqb n k (cc)) ∙ other))
+  no_aim e n false beside other h = rw beside (rw beside at h)
+
+  an_aim : (e n : ℕ) (b : Bool) → (e == d) ≡ b → aimed s d None e ≡ Some n → aimed s d (Some k) e ≡ Some n
+  an_aim e n true y h = let none : None ≡ Some n = sym (rw y refl) ∙ h in absurd (cc)
+  an_aim e n false beside h = rw beside (rw beside at h)
+
 -- an input is changed, and those that are ready are as many or one more
 module _ (s : State) (d : ℕ) where
+  none_aimed : (e n : ℕ) → e ≡ d → aimed s d None e ≡ Some n → ⊥
+  none_aimed e n at h = let here = eq-eqb e d at in let none : None ≡ Some n = sym (rw here refl) ∙ h in cc
+
   inward : (k : ℕ) → IsInput s d k → (u : Transfer) → (u.number == k) ≡ true → IsKnown s u → (is_inward u.direction ≡ true) × (u.device ≡ d)
   inward k is u e h = h.input d (subst (IsInput s d) (sym (eqb-true u.number k e)) is)
 
@@ -178,7 +195,7 @@ module _ (s : State) (d : ℕ) where
   -- it is
   ended_so : (t : State) (k : ℕ) (f : Transfer → Transfer) (aim : Option ℕ) (more : ℕ) → IsMild f → IsInput s d k → ((u : Transfer) → is_moving (f u).phase ≡ false)
       → ((u : Transfer) → (u.number == k) ≡ false → Aims s d aim u → Aims s d None u) → Received s d aim more t → Received s d None (more + 1) (change_transfer t k f)
-  ended_so t k f aim more m is still beside r = changed_so t k f aim None more 1 m is (λ u e _ h moving. absurd (true≢false (sym moving ∙ still u))) beside (λ e. count e (e == d) refl) r
+  ended_so t k f aim more m is still beside r = changed_so t k f aim None more 1 m is (λ u e at h. record { received = λ moving. absurd (true≢false (sym moving ∙ still u)); moving = λ same. absurd (none_aimed (f u).device (f u).number (ap (λ (x : Transfer). x.device) (m.like u) ∙ at) same) }) beside (λ e. count e (e == d) refl) r
     where
       count : (e : ℕ) (b : Bool) → (e == d) ≡ b → arrived (change_transfer t k f) e ≤ arrived t e + (if b then 1 else 0)
       count e true y = count_changed (has_arrived e) (is_numbered k) f t.transfers
@@ -222,7 +239,8 @@ module _ (s : State) (d : ℕ) where
     next = r.next;
     transfers = r.transfers;
     queues = r.queues;
-    moving = λ i c lt m. let u = get_or t.transfers i c in aims u.device (u.device == d) refl ∙ r.moving i c lt m;
+    moving = λ i c lt m. let u = get_or t.transfers i c in aims u.device (u.device == d) refl ∙ (r.moving i c lt).received m;
+    received = λ i c lt e. let u = get_or t.transfers i c in (r.moving i c lt).moving (sym (aims u.device (u.device == d) refl) ∙ e);
     goes = λ e. (r.devices e).goes;
     suits = λ e. (r.devices e).suits;
     depths = λ e. keeps e (e == d) refl;
@@ -275,7 +293,7 @@ module _ (s : State) (d : ℕ) (o : IsOrderly s) where
     transfers = known s o;
     order = o.transfers.order;
     queues = o.queues;
-    moving = λ i c lt m. let u = get_or s.transfers i c in same u.device (u.device == d) refl ∙ o.moving i c lt m;
+    moving = λ i c lt. let u = get_or s.transfers i c in let at = same u.device (u.device == d) refl in record { received = λ m. at ∙ o.moving i c lt m; moving = λ e. o.received i c lt (sym at ∙ e) };
     arrived = λ e. adds_none (e == d) (arrived s e) (arrived s e) (omega arith);
     devices = λ e. record { goes = o.matched e; suits = o.datagrams e; depth = o.depths e };
     others = λ e n. refl;
@@ -295,7 +313,7 @@ module _ (s : State) (d : ℕ) (o : IsOrderly s) where
       settle s d (set_device s d v) (receives_for (Some v)) 0 after (ap receives_for at) (subst (KeepsDepth (arrived s d)) (sym at) (way_fits s d v room))
 
   same_ends : Ends s s
-  same_ends = record { config = refl; next = refl; transfers = known s o; queues = o.queues; moving = o.moving; goes = o.matched; suits = o.datagrams; depths = o.depths }
+  same_ends = record { config = refl; next = refl; transfers = known s o; queues = o.queues; moving = o.moving; received = o.received; goes = o.matched; suits = o.datagrams; depths = o.depths }
 
   landed_so : (t : State) (u : Transfer) (x : ℕ) (new : List ℕ) (region aim : Option ℕ) → Received s d aim 0 t → Received s d aim 0 (landed t u x new region)
   landed_so t u x new None aim r = r
@@ -303,7 +321,7 @@ module _ (s : State) (d : ℕ) (o : IsOrderly s) where
 
   land_in_so : (t : State) (x : ℕ) (new : List ℕ) (found : Option Transfer) (aim : Option ℕ) → ((u : Transfer) → found ≡ Some u → IsInput s d u.number) → Received s d aim 0 t → Received s d aim 0 (land_in t x new found)
   land_in_so t x new None aim is r = r
-  land_in_so t x new (Some u) aim is r = turned_so s d (landed t u x new (landing u)) u.number (after_receiving x new) aim aim 0 (receives x new) (is u refl) (λ w e. e) (λ w e _ h. h) (λ w e h. h) (landed_so t u x new (landing u) aim r)
+  land_in_so t x new (Some u) aim is r = turned_so s d (landed t u x new (landing u)) u.number (after_receiving x new) aim aim 0 (receives x new) (is u refl) (λ w e. e) (λ w e _ h. record { received = h.received; moving = h.moving }) (λ w e h. h) (landed_so t u x new (landing u) aim r)
 
   land_so : (t : State) (x : ℕ) (new : List ℕ) (fate : Fate) (aim : Option ℕ) → GoesToInput s d fate → Received s d aim 0 t → Received s d aim 0 (land t x new fate)
   land_so t x new Skipped aim goes r = r
@@ -322,14 +340,8 @@ module _ (s : State) (d : ℕ) (o : IsOrderly s) where
   complete_ends t g truncated k Skipped goes r at depth = settle s d t None 0 r at (depth (arrived t d) (let a = adds_some (d == d) (arrived s d) (arrived t d) 0 (r.arrived d) in omega (arith, a)))
   complete_ends t g truncated k (Matched u) goes r at depth =
       let f : Transfer → Transfer = with_datagram truncated g.len in
-      let after = ended_so s d t u f (Some u) 0 (ends_with truncated g.len) goes (λ w. refl) (λ w other h m. other_aim w.device w.number (w.device == d) refl other (h m)) r in
+      let after = ended_so s d t u f (Some u) 0 (ends_with truncated g.len) goes (λ w. refl) (λ w other h. record { received = λ m. no_aim s d u w.device w.number (w.device == d) refl other (h.received m); moving = λ same. h.moving (an_aim s d u w.device w.number (w.device == d) refl same) }) r in
       settle s d (change_transfer t u f) None 1 after at (depth _ (adds_some (d == d) (arrived s d) (arrived (change_transfer t u f) d) 1 (after.arrived d)))
-    where
-      other_aim : (e n : ℕ) (b : Bool) → (e == d) ≡ b → (n == u) ≡ false → aimed s d (Some u) e ≡ Some n → aimed s d None e ≡ Some n
-      other_aim e n true y other h =
-          let same : Some u ≡ Some n = sym (rw y refl) ∙ h in
-          absurd (true≢false (sym (eq-eqb n u (cc)) ∙ other))
-      other_aim e n false beside other h = rw beside (rw beside at h)
   complete_ends t g truncated k Gathering goes r at depth = deliver_ends t g truncated k (first_posted t d g.port g.flow) (λ u e. posted_is_input s d g.port g.flow t u r.transfers e) r at depth
 
   go_on_ends : (t : State) (v : Device) (g : Datagram) (k : ℕ) → g.moved ≤ g.len → GoesToInput s d g.fate → SuitsDevice s.config.page v g → Room s d v → Received s d (matched_to g.fate) 0 t → Ends s (go_on t d v g k).0
@@ -371,12 +383,9 @@ module _ (s : State) (d : ℕ) (o : IsOrderly s) where
         (λ some. device_ends (record v { present = Some g }) old is (sym aims_none) (record { left = grind (arith, nat_tests, some); input = tt }) (record { header = empty; short = short; fate = early }) room)
     match_ends left v header h (Some k) is_input empty short early room =
         let here = is_input k refl in
-        let r = turned_so s d s k (with_phase Moving) None (Some k) 0 moves here (λ u e. absurd (true≢false (sym e))) (λ u same device h m. rw (eq-eqb u.device d device) (ap Some (sym (eqb-true u.number k same)))) (λ u other h m. rises u.device u.number (u.device == d) refl (h m)) (begun None old is aims_none) in
+        let r = turned_so s d s k (with_phase Moving) None (Some k) 0 moves here (λ u e. absurd (true≢false (sym e))) (λ u same device h. record { received = λ m. rw (eq-eqb u.device d device) (ap Some (sym (eqb-true u.number k same))); moving = λ _. refl })
+        (λ u other h. record { received = λ m. an_aim s d k u.device u.number (u.device == d) refl (h.received m); moving = λ same. h.moving (no_aim s d k u.device u.number (u.device == d) refl other same) }) (begun None old is aims_none) in
         payload_ends (change_transfer s k (with_phase Moving)) v (datagram header (Matched k)) h _ (omega arith) here (record { header = empty; short = short; fate = early }) room r
-      where
-        rises : (e n : ℕ) (b : Bool) → (e == d) ≡ b → aimed s d None e ≡ Some n → aimed s d (Some k) e ≡ Some n
-        rises e n true y h = let none : None ≡ Some n = sym (rw y refl) ∙ h in absurd (cc)
-        rises e n false beside h = rw beside (rw beside at h)
 
     begin_ends : (left : ℕ) (v : Device) (header : List ℕ) (h : ℕ) → v.header ≡ [] → len_in header ≤ most v.kind s.config.page → Room s d v → Ends s (begin_datagram s d left v header h).0
     begin_ends left v header h empty short room = cond_both (is_early v.kind) _ _ (λ (x : Outcome). Ends s x.0)

@@ -1,6 +1,6 @@
 -- What is so of the pending transfers and of what devices receive, after every step.
 use Rattle.std.proofs.Common.{◌≡◌, ℕ, Bool, ◌+◌, ◌≤◌, true, false, List, [], ◌∷◌, ◌++◌, ◌∙◌, AllPairs, get_or, eqb-true, eq-eqb, map, filter, All, refl, sym, subst, true≢false, arith, ap, slice_set, count_by}
-use Rattle.std.specs.Prelude.{Option, Some, None, IfSome, IsTrue, ◌&&◌, not, ◌==◌, if◌then◌else◌}
+use Rattle.std.specs.Prelude.{Option, Some, None, IfSome, IsTrue, option_and_then, ◌&&◌, not, ◌==◌, if◌then◌else◌}
 use Rattle.std.proofs.lemmas.Bool.{cond_both, and_parts, and_from, false_from_ne_true}
 use Rattle.std.proofs.lemmas.List.Elements.{All-map, All-filter, All-push, All-weaker}
 use Rattle.genie_base.specs.Posted.{Address}
@@ -12,8 +12,8 @@ use Rattle.genie_base.specs.declared.semantics.Class.TheVariants.{Copy, Share, M
 use Rattle.genie_model.specs.declared.fate.Fate.{Fate}
 use Rattle.genie_model.specs.declared.fate.Fate.TheVariants.{Matched, Skipped, Gathering}
 use Rattle.genie_model.specs.declared.phase.Phase.TheVariants.{Queued, Posted, Moving, Ready}
-use Rattle.genie_orderly.specs.Orderly.{has_phase, IsTransfer, AreTransfers, WaitsBehind, OneIsSent, receives_for, MovingAreReceived, SuitsDevice, DatagramsSuit, KeepsDepth, DepthsAreKept, PostedAreInputs, IsInput, GoesToInput, IsUnderWay, ReceivesForInput, MatchedAreInputs, IsOrderly}
-use Rattle.genie_orderly.proofs.Transfers.Changes.{pairs_first, pairs_without}
+use Rattle.genie_orderly.specs.Orderly.{has_phase, IsTransfer, AreTransfers, WaitsBehind, OneIsSent, matched_to, receives_for, MovingAreReceived, ReceivedAreMoving, SuitsDevice, DatagramsSuit, KeepsDepth, DepthsAreKept, PostedAreInputs, IsInput, GoesToInput, IsUnderWay, ReceivesForInput, MatchedAreInputs, IsOrderly}
+use Rattle.genie_orderly.proofs.Transfers.Changes.{all_passing, pairs_first, pairs_without}
 use Rattle.genie_base.specs.Lemmas.Searches.{pairs_mapped}
 use Rattle.genie_model.specs.State.{State, Region, Transfer, Device, Datagram}
 use Rattle.genie_model.specs.Tables.{entry, change, without}
@@ -54,6 +54,7 @@ record Lasts (s t : State) : Type 0 where
   transfers : All (IsOld s) t.transfers
   queues : OneIsSent t
   moving : MovingAreReceived t
+  received : ReceivedAreMoving t
   goes : (d : ℕ) → ReceivesForInput s d (entry t.devices d)
   suits : (d : ℕ) → IfSome (entry t.devices d) (λ (v : Device). IfSome v.present (SuitsDevice s.config.page v))
   depths : DepthsAreKept t
@@ -71,8 +72,22 @@ later_device s t d (Some v) h goes = later v.present goes
     later None under = tt
     later (Some g) under = record { left = under.left; input = later_fate s t d g.fate h under.input }
 
+-- a device receives for an input alone
+received_input : (s : State) (d : ℕ) (v : Option Device) (k : ℕ) → ReceivesForInput s d v → receives_for v ≡ Some k → IsInput s d k
+received_input s d None k goes e = absurd (cc)
+received_input s d (Some v) k goes e = of_datagram v.present goes e
+  where
+    of_fate : (fate : Fate) → GoesToInput s d fate → matched_to fate ≡ Some k → IsInput s d k
+    of_fate Skipped goes e = absurd (cc)
+    of_fate (Matched n) goes e = let same : n ≡ k = cc in subst (IsInput s d) same goes
+    of_fate Gathering goes e = absurd (cc)
+
+    of_datagram : (o : Option Datagram) → IfSome o (IsUnderWay s d) → option_and_then (λ (g : Datagram). matched_to g.fate) o ≡ Some k → IsInput s d k
+    of_datagram None under e = absurd (cc)
+    of_datagram (Some g) under e = of_fate g.fate under.input e
+
 begins : (s : State) → IsOrderly s → Lasts s s
-begins s o = record { config = refl; least = omega arith; transfers = λ i d lt. record { posted = o.posted i d lt; input = λ e is. is.1 i d lt refl; call = o.calls i d lt }; queues = o.queues; moving = o.moving; goes = o.matched; suits = o.datagrams; depths = o.depths }
+begins s o = record { config = refl; least = omega arith; transfers = λ i d lt. record { posted = o.posted i d lt; input = λ e is. is.1 i d lt refl; call = o.calls i d lt }; queues = o.queues; moving = o.moving; received = o.received; goes = o.matched; suits = o.datagrams; depths = o.depths }
 
 -- the end of its process leaves all but the owner and the region of a transfer
 disowned_like : (p : ℕ) (t : Transfer) → disowned p t ≡ record t { owner = (disowned p t).owner; region = (disowned p t).region }
@@ -81,6 +96,7 @@ disowned_like p t = cond_both (is_just t.owner p) (record t { owner = None; regi
 -- a transfer that a call adds
 record IsNewCall (s : State) (t : Transfer) : Type 0 where
   old : IsOld s t
+  fresh : (d : ℕ) → IsInput s d t.number → ⊥
   moving : is_moving t.phase ≡ false
   ready : is_ready t.phase ≡ false
   staged : t.staged ≡ 0
@@ -96,25 +112,33 @@ queued_outward Inward Posted h q = absurd (cc)
 queued_outward Inward Moving h q = absurd (cc)
 queued_outward Inward Ready h q = absurd (cc)
 
+queued_still : (phase : Phase) → is_queued phase ≡ true → is_moving phase ≡ true → ⊥
+queued_still Queued q m = true≢false (sym m)
+queued_still Posted q m = true≢false (sym q)
+queued_still Moving q m = true≢false (sym q)
+queued_still Ready q m = true≢false (sym q)
+
 -- fewer inputs are ready at each device
 fewer_ready : (t : State) (transfers : List Transfer) → ((e : ℕ) → count_by (has_arrived e) transfers ≤ arrived t e) → DepthsAreKept t → DepthsAreKept (record t { transfers = transfers })
 fewer_ready t transfers less h = λ d. less_depth _ (arrived t d) (entry t.devices d) (less d) (h d)
 
 module _ (s : State) where
   alike : (t u : State) → SameBut t u → Lasts s t → Lasts s u
-  alike t u e h = subst (Lasts s) (sym e) (record { config = h.config; least = h.least; transfers = h.transfers; queues = h.queues; moving = h.moving; goes = h.goes; suits = h.suits; depths = h.depths })
+  alike t u e h = subst (Lasts s) (sym e) (record { config = h.config; least = h.least; transfers = h.transfers; queues = h.queues; moving = h.moving; received = h.received; goes = h.goes; suits = h.suits; depths = h.depths })
 
   after_exit : (p : ℕ) → Lasts s s → Lasts s (exit s p).0
   after_exit p h =
       let stays : Transfer → Bool = λ t. not (is_posted_by p t) in
       let left : List Transfer = filter stays s.transfers in
       let Receives : Transfer → Type 0 = λ u. is_moving u.phase ≡ true → receives_for (entry s.devices u.device) ≡ Some u.number in
+      let Moves : Transfer → Type 0 = λ u. receives_for (entry s.devices u.device) ≡ Some u.number → is_moving u.phase ≡ true in
       record {
         config = refl;
         least = omega arith;
         transfers = All-map (IsOld s) (disowned p) left (All-weaker (IsOld s) (λ t. IsOld s (disowned p t)) (λ t old. rw (disowned_like p t) (record { posted = old.posted; input = old.input; call = record { phase = old.call.phase; placed = old.call.placed; stored = old.call.stored } })) left (All-filter stays (IsOld s) s.transfers h.transfers));
         queues = pairs_mapped WaitsBehind (disowned p) (λ t u behind. rw (disowned_like p t, disowned_like p u) (λ q r same. behind q r same)) left (AllPairs-filter WaitsBehind stays s.transfers h.queues);
         moving = All-map Receives (disowned p) left (All-weaker Receives (λ t. Receives (disowned p t)) (λ t old. rw (disowned_like p t) old) left (All-filter stays Receives s.transfers h.moving));
+        received = All-map Moves (disowned p) left (All-weaker Moves (λ t. Moves (disowned p t)) (λ t old. rw (disowned_like p t) old) left (All-filter stays Moves s.transfers h.received));
         goes = h.goes;
         suits = h.suits;
         depths = fewer_ready s (map (disowned p) left) (λ e. count_kept (has_arrived e) stays (disowned p) (λ t y. subst (λ b. b ≡ true) (ap (has_arrived e) (disowned_like p t)) y) s.transfers) h.depths;
@@ -129,19 +153,20 @@ module _ (s : State) where
         transfers = All-push (IsOld s) t.transfers u h.transfers new.old;
         queues = all_pairs_push WaitsBehind t.transfers u h.queues (λ k d lt q r same. (new.staged, new.moved));
         moving = All-push (λ (w : Transfer). is_moving w.phase ≡ true → receives_for (entry t.devices w.device) ≡ Some w.number) t.transfers u h.moving (λ m. absurd (true≢false (sym m ∙ new.moving)));
+        received = All-push (λ (w : Transfer). receives_for (entry t.devices w.device) ≡ Some w.number → is_moving w.phase ≡ true) t.transfers u h.received (λ e. absurd (new.fresh u.device (received_input s u.device (entry t.devices u.device) u.number (h.goes u.device) e)));
         goes = h.goes;
         suits = h.suits;
         depths = fewer_ready t (t.transfers ++ u ∷ []) (λ e. let same = count_pushed (has_arrived e) t.transfers u (not_arrived e u new.ready) in omega (arith, same)) h.depths;
       }
 
   new_input : (p : ℕ) (class : Class) (to : Address) (a : Option ℕ) (n : ℕ) → IsNewCall s (posted s p class to a n)
-  new_input p Copy to a n = record { old = record { posted = λ _. refl; input = λ e is. absurd (omega (arith, is.0)); call = record { phase = refl; placed = refl; stored = omega arith } }; moving = refl; ready = refl; staged = refl; moved = refl }
-  new_input p Share to a n = record { old = record { posted = λ _. refl; input = λ e is. absurd (omega (arith, is.0)); call = record { phase = refl; placed = refl; stored = omega arith } }; moving = refl; ready = refl; staged = refl; moved = refl }
-  new_input p Move to a n = record { old = record { posted = λ _. refl; input = λ e is. absurd (omega (arith, is.0)); call = record { phase = refl; placed = (refl, refl); stored = omega arith } }; moving = refl; ready = refl; staged = refl; moved = refl }
-  new_input p WeakMove to a n = record { old = record { posted = λ _. refl; input = λ e is. absurd (omega (arith, is.0)); call = record { phase = refl; placed = (refl, refl); stored = omega arith } }; moving = refl; ready = refl; staged = refl; moved = refl }
+  new_input p Copy to a n = record { old = record { posted = λ _. refl; input = λ e is. absurd (omega (arith, is.0)); call = record { phase = refl; placed = refl; stored = omega arith } }; fresh = λ e is. omega (arith, is.0); moving = refl; ready = refl; staged = refl; moved = refl }
+  new_input p Share to a n = record { old = record { posted = λ _. refl; input = λ e is. absurd (omega (arith, is.0)); call = record { phase = refl; placed = refl; stored = omega arith } }; fresh = λ e is. omega (arith, is.0); moving = refl; ready = refl; staged = refl; moved = refl }
+  new_input p Move to a n = record { old = record { posted = λ _. refl; input = λ e is. absurd (omega (arith, is.0)); call = record { phase = refl; placed = (refl, refl); stored = omega arith } }; fresh = λ e is. omega (arith, is.0); moving = refl; ready = refl; staged = refl; moved = refl }
+  new_input p WeakMove to a n = record { old = record { posted = λ _. refl; input = λ e is. absurd (omega (arith, is.0)); call = record { phase = refl; placed = (refl, refl); stored = omega arith } }; fresh = λ e is. omega (arith, is.0); moving = refl; ready = refl; staged = refl; moved = refl }
 
   new_output : (p : ℕ) (class : Class) (to : Address) (a n : ℕ) (reached : Option Region) → IsNewCall s (output_of s p class to a n reached)
-  new_output p class to a n reached = record { old = record { posted = λ e. absurd (true≢false (sym e)); input = λ e is. absurd (omega (arith, is.0)); call = record { phase = refl; placed = refl; stored = omega arith } }; moving = refl; ready = refl; staged = refl; moved = refl }
+  new_output p class to a n reached = record { old = record { posted = λ e. absurd (true≢false (sym e)); input = λ e is. absurd (omega (arith, is.0)); call = record { phase = refl; placed = refl; stored = omega arith } }; fresh = λ e is. omega (arith, is.0); moving = refl; ready = refl; staged = refl; moved = refl }
 
   -- a change of the first output that waits for the device
   record IsOutward (f : Transfer → Transfer) : Type 0 where
@@ -172,6 +197,8 @@ module _ (s : State) where
     transfers = all_change (IsOld s) (waits_for d) f m.old t.transfers h.transfers;
     queues = waits_behind d f m t.transfers h.queues;
     moving = all_change (λ (u : Transfer). is_moving u.phase ≡ true → receives_for (entry t.devices u.device) ≡ Some u.number) (waits_for d) f (λ u old now. rw (m.device u, m.number u) (old (m.moving u now))) t.transfers h.moving;
+    received = all_passing (λ (u : Transfer). receives_for (entry t.devices u.device) ≡ Some u.number → is_moving u.phase ≡ true) (waits_for d) f
+        (λ u w old e. absurd (queued_still u.phase (and_parts (is_queued u.phase) (u.device == d) w).0 (old (ap (λ (e : ℕ). receives_for (entry t.devices e)) (sym (m.device u)) ∙ e ∙ ap Some (m.number u))))) t.transfers h.received;
     goes = h.goes;
     suits = h.suits;
     depths = fewer_ready t (change (waits_for d) f t.transfers) (no_arrival d f m t.transfers h.transfers) h.depths;
@@ -218,6 +245,7 @@ module _ (s : State) where
         transfers = h.transfers;
         queues = h.queues;
         moving = λ i c lt m. (alike (get_or t.transfers i c).device).aims ∙ h.moving i c lt m;
+        received = λ i c lt e. h.received i c lt (sym (alike (get_or t.transfers i c).device).aims ∙ e);
         goes = λ e. (alike e).goes (h.goes e);
         suits = λ e. (alike e).suits (h.suits e);
         depths = λ e. (alike e).depth (arrived t e) (h.depths e);
@@ -235,6 +263,7 @@ module _ (s : State) where
     transfers = all_without (IsOld s) (is_numbered k) t.transfers h.transfers;
     queues = pairs_without WaitsBehind (is_numbered k) t.transfers h.queues;
     moving = all_without (λ (u : Transfer). is_moving u.phase ≡ true → receives_for (entry t.devices u.device) ≡ Some u.number) (is_numbered k) t.transfers h.moving;
+    received = all_without (λ (u : Transfer). receives_for (entry t.devices u.device) ≡ Some u.number → is_moving u.phase ≡ true) (is_numbered k) t.transfers h.received;
     goes = h.goes;
     suits = h.suits;
     depths = fewer_ready t (without (is_numbered k) t.transfers) (λ e. count_without (has_arrived e) (is_numbered k) t.transfers) h.depths;
@@ -258,6 +287,7 @@ module _ (s : State) where
         transfers = All-weaker (IsKnown s) (IsOld s) (λ t known. record { posted = λ e. (known.input t.device (known.posted e)).0; input = known.input; call = known.call }) (recv s d n).0.transfers r.transfers;
         queues = r.queues;
         moving = r.moving;
+        received = r.received;
         goes = r.goes;
         suits = r.suits;
         depths = r.depths;
@@ -304,6 +334,9 @@ module _ (s : State) (e : Event) (m : Mark) (whole : IsTrue (is_whole e)) (o : I
 
   pub moving_are_received : MovingAreReceived (step s e m).0
   moving_are_received = step_so MovingAreReceived s o.moving (λ f. (lasting s f o).moving) e m
+
+  pub received_are_moving : ReceivedAreMoving (step s e m).0
+  received_are_moving = step_so ReceivedAreMoving s o.received (λ f. (lasting s f o).received) e m
 
   pub datagrams_suit : DatagramsSuit (step s e m).0
   datagrams_suit = step_so DatagramsSuit s o.datagrams (λ f d. let h = lasting s f o in let same = h.config in rw same (h.suits d)) e m

@@ -25,7 +25,7 @@ use Rattle.genie_orderly.proofs.Orphans.Named.{orphans_are_named}
 use Rattle.genie_orderly.proofs.Transfers.Numbers.{numbers_rise}
 use Rattle.genie_orderly.proofs.Orphans.Rising.{orphans_rise, orphan_places_rise}
 use Rattle.genie_orderly.proofs.Names.Steps.{ranges_lie}
-use Rattle.genie_orderly.proofs.Inputs.Receivers.{posted_are_inputs, matched_are_inputs, calls_stay, one_is_sent, moving_are_received, datagrams_suit, depths_are_kept}
+use Rattle.genie_orderly.proofs.Inputs.Receivers.{posted_are_inputs, matched_are_inputs, calls_stay, one_is_sent, moving_are_received, received_are_moving, datagrams_suit, depths_are_kept}
 use Rattle.genie_orderly.proofs.Regions.Spaces.{none_apart, places_stay, regions_stay_apart, committed_is_bounded}
 use Rattle.genie_orderly.proofs.Orphans.Tidy.{orphans_tidy}
 use Rattle.genie_orderly.proofs.Transfers.Frames.{wired_is_bounded}
@@ -79,6 +79,7 @@ boot_is_orderly c inputs fits = record {
   calls = λ k d l. absurd (omega arith);
   queues = λ i j d l m. absurd (omega arith);
   moving = λ k d l. absurd (omega arith);
+  received = λ k d l. absurd (omega arith);
   datagrams = λ d. boot_suits c.page inputs 0 c.devices d;
   depths = λ d. boot_depths inputs 0 c.devices d;
 }
@@ -109,6 +110,7 @@ step_is_orderly s e m whole o =
       calls = calls_stay s e m whole o;
       queues = one_is_sent s e m whole o;
       moving = moving_are_received s e m whole o;
+      received = received_are_moving s e m whole o;
       datagrams = datagrams_suit s e m whole o;
       depths = depths_are_kept s e m whole o;
     }
