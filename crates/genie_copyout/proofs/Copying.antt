@@ -23,6 +23,7 @@ use Rattle.genie_object.specs.Keeping.{IsReady}
 use Rattle.genie_object.specs.Touching.{KeepsLoans, Touches}
 use Rattle.genie_object.specs.Lemmas.Lookup.{in_range}
 use Rattle.genie_object.specs.Lemmas.Showing.{shows_stored, seen_landed, keeps_sound}
+use Rattle.genie_object.specs.Lemmas.Touching.{as_many}
 
 -- the bytes of one list around those of another
 all_laid : (new old : List ℕ) → length new ≡ length old → overlaid zero new old ≡ new
@@ -107,6 +108,7 @@ keeps_copied m t f bytes n e l = subst (λ u. KeepsLoans m (record m { frames = 
   entry_held = λ a b g h k. h;
   held = λ g h. h;
   lent = λ g h. record { lent = h; bytes = get_or-set_other m.frames.bytes f g bytes [] (λ s. let bad : true ≡ false = sym h ∙ ap (λ k. is_lent (counts_at m.frames k)) s ∙ l in cc); owner = inl refl };
+  loans = λ g. as_many (counts_at m.frames g) (counts_at m.frames g) refl;
   systems = λ g. refl;
   entries = λ o. refl;
   number = refl;

@@ -24,6 +24,7 @@ use Rattle.genie_object.specs.Lemmas.Lookup.{in_range, page_known, frame_known, 
 use Rattle.genie_object.specs.Lemmas.Entries.{entry_same, entry_or, times_set, entries_size, times_some, naming_there}
 use Rattle.genie_object.specs.Lemmas.Relocated.{Became, became, owners_unseen, frame_is}
 use Rattle.genie_object.specs.Lemmas.Relocated.Became.{Gained, Lost, Stayed}
+use Rattle.genie_object.specs.Lemmas.Touching.{as_many}
 use Rattle.genie_hiding.specs.Leaving.{dropped, IsOwnPage, CanDrop}
 
 pub left_length : (owners : List Owner) (counts : List Counts) (from : Place) → length (left_owners owners counts from) ≡ length owners
@@ -250,6 +251,7 @@ module _ (m : Memory) (o i : ℕ) (p : PageId) (x : CanDrop m o i p) where
     ];
     held = λ h k. k;
     lent = λ h l. lasts m o i p x.own h l (frame_dropped m o i p x.own h);
+    loans = λ h. as_many (counts_at m.frames h) (counts_at m.frames h) refl;
     systems = λ h. systems m o i p x.own h (frame_dropped m o i p x.own h);
     entries = entries_size m.objects o i no_entry (there m o i p x.own);
     number = left_length m.frames.owners m.frames.counts place;

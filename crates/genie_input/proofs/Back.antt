@@ -13,6 +13,7 @@ use Rattle.genie_object.specs.Objects.{entry_at}
 use Rattle.genie_object.specs.Memory.{Seen, seen_with, is_kept, page_bytes}
 use Rattle.genie_object.specs.Sound.{IsSound}
 use Rattle.genie_object.specs.Touching.{system_owner}
+use Rattle.genie_object.specs.Lemmas.Touching.{as_many}
 use Rattle.genie_plan.specs.Loans.{LoanKind, Strong, Weak, Input, Loan, loan_times, is_kind, more, less, amount, let_go, AreOut, Ended}
 use Rattle.genie_plan.specs.Lemmas.Ending.{loan_cons, frame_cons, frame_times, some_or, other_test}
 use Rattle.genie_plan.specs.Ending.{CanEnd}
@@ -101,6 +102,7 @@ module _ (kind : LoanKind) (spoken : ℕ → ℕ → Bool) (o i : ℕ) (loans : 
         bytes = ap (λ bs. get_or bs f []) e.bytes ∙ y.bytes;
         owner = elim y.owner [ inl d ↦ inl (owner_same f ∙ d) | inr d ↦ inr (d.0, owner_same f ∙ d.1) ];
       };
+      loans = λ f. as_many (counts_at old.frames f) (counts_at t f) (counts_back f);
       systems = λ f. ap system_owner (owner_same f) ∙ x.keeps.systems f;
       entries = x.keeps.entries;
       number = e.size ∙ x.keeps.number;

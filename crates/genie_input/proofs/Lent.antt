@@ -29,7 +29,7 @@ use Rattle.genie_store.specs.StoreView.{StoreView}
 use Rattle.std.specs.Option.{option_map}
 use Rattle.std.specs.Prelude.{nat_le}
 use Rattle.std.proofs.lemmas.Bool.Decides.{nat_tests}
-use Rattle.genie_object.specs.Lemmas.Touching.{keeps_on, keeps_all, touches_on, touches_none, touches_more, sound_metered, keeps_metered, touches_metered}
+use Rattle.genie_object.specs.Lemmas.Touching.{fewer_set, keeps_on, keeps_all, touches_on, touches_none, touches_more, sound_metered, keeps_metered, touches_metered}
 use Rattle.genie_object.specs.Steps.{metered}
 use Rattle.genie_object.specs.Sound.{IsSized}
 use Rattle.std.proofs.lemmas.List.{map-append}
@@ -37,6 +37,7 @@ use Rattle.std.proofs.lemmas.List.Sums.{count_by-le-length}
 use Rattle.genie_object.specs.Lemmas.Spending.{spends_more, spends_none, spends_on, costs_on}
 use Rattle.genie_object.specs.Lemmas.Works.{writes_less, writes_next, writes_most, writes_up}
 use Rattle.genie_object.specs.Touching.{KeepsLoans, Touches, is_entry, is_in_range}
+use Rattle.genie_plan.specs.Lemmas.Staying.{one_loan_more}
 use Rattle.genie_plan.specs.Loans.{LoanKind, Strong, Weak, Input, Loan, loan_times, is_kind, one_more, more, amount}
 use Rattle.genie_plan.specs.Lemmas.Ending.{loan_cons, same_test, other_test}
 use Rattle.genie_input.specs.Lending.{lent_more, HasLent, LendsSoFar}
@@ -155,6 +156,7 @@ module _ (m : Memory) (o i : ℕ) (f : FrameId) (kind : LoanKind) (s : IsSound m
     entry_held = λ a b g e h. e;
     held = held_still;
     lent = λ g l. record { lent = lent_still g l; bytes = refl; owner = inl refl };
+    loans = fewer_set m.frames f.0 (one_more kind (counts_at m.frames f.0)) lent_there (one_loan_more kind (counts_at m.frames f.0));
     systems = λ g. refl;
     entries = λ a. refl;
     number = refl;

@@ -29,7 +29,7 @@ use Rattle.genie_object.specs.Touching.{KeepsLoans, Touches, Narrows, IsOutside}
 use Rattle.genie_object.specs.Lemmas.Lookup.{in_range, slot_taken, page_known}
 use Rattle.genie_object.specs.Lemmas.Relocated.{sound_relocated, seen_relocated, keeps_relocated, touches_relocated, page_other, shares_kept, of_p}
 use Rattle.genie_object.specs.Lemmas.Costing.{IsNoDearer, costs_same, dear_in_slot, dear_same}
-use Rattle.genie_object.specs.Lemmas.Touching.{keeps_on, touches_on, sound_metered, keeps_metered, touches_metered}
+use Rattle.genie_object.specs.Lemmas.Touching.{as_many, keeps_on, touches_on, sound_metered, keeps_metered, touches_metered}
 use Rattle.genie_pageout.specs.Evicting.{IsPut, IsGone}
 
 pub slot_undone : (slots : List Bool) (s : ℕ) → slot_at slots s ≡ false → set (set slots s true) s false ≡ slots
@@ -101,6 +101,7 @@ module _ (m : Memory) (p : ℕ) (sound : IsSound m) where
     entry_held = λ o i f e h. ap (frame_of m.pages.pages) (page_closed o i) ∙ e;
     held = λ f h. h;
     lent = λ f l. record { lent = l; bytes = refl; owner = inl refl };
+    loans = λ f. as_many (counts_at m.frames f) (counts_at m.frames f) refl;
     systems = λ f. refl;
     entries = row_length;
     number = refl;

@@ -28,10 +28,6 @@ OutputsStay = (old new : FrameTable) (loans : List OutLoan) (first len : ℕ) �
 abbrev pub InputsStay : Type 0
 InputsStay = (old new : FrameTable) (frames : List ℕ) (first len : ℕ) → LentLast old new → CanLand old frames first len → LandsSame old new frames first len
 
--- no count of loans has fallen
-abbrev pub NoneEnded : FrameTable → FrameTable → Type 0
-NoneEnded old new = (kind : LoanKind) (f : ℕ) → amount kind (counts_at old f) ≤ amount kind (counts_at new f)
-
--- a call that keeps loans, and ends none of them, leaves the lent frames as a plan needs them
+-- a call that keeps loans leaves the lent frames as a plan needs them
 abbrev pub CallsLeavePlans : Type 0
-CallsLeavePlans = (old new : Memory) → KeepsLoans old new → NoneEnded old.frames new.frames → LentLast old.frames new.frames
+CallsLeavePlans = (old new : Memory) → KeepsLoans old new → LentLast old.frames new.frames

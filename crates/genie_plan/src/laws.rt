@@ -43,7 +43,7 @@ pub fn ended_loans_show_what_was_seen()
 {}
 
 /// A plan stays as it is, and has the same bytes, where no count of loans falls and each lent frame keeps its bytes. So
-/// every call that keeps loans and ends none leaves it.
+/// every call that keeps loans leaves it.
 pub fn plans_stay()
     ensures outputs { OutputsStay }
     ensures inputs { InputsStay }

@@ -13,6 +13,8 @@ use Rattle.genie_object.specs.Objects.{entry_at, names}
 use Rattle.genie_object.specs.Memory.{seen, is_kept, entry_frame, frame_of, frame_in}
 use Rattle.genie_object.specs.Sound.{IsSound}
 use Rattle.genie_object.specs.Touching.{KeepsLoans, Touches}
+use Rattle.genie_object.specs.Lemmas.Touching.{fewer_set}
+use Rattle.genie_plan.specs.Lemmas.Staying.{one_loan_more}
 use Rattle.genie_plan.specs.Loans.{LoanKind, Strong, Weak, Input, one_more, more}
 use Rattle.genie_tcow.specs.Lending.{lent_more, see_lent, loans_on}
 use Rattle.genie_tcow.proofs.Counting.{on_one, one_here, one_else, held_more, lent_one_more, wires_more}
@@ -141,6 +143,7 @@ module _ (kind : LoanKind) (m : Memory) (g : ℕ) (s : IsSound m) (owned : is_ow
     entry_held = λ a b h e k. e;
     held = held_still;
     lent = λ h l. record { lent = lent_still h l; bytes = refl; owner = inl refl };
+    loans = fewer_set m.frames g grown there (one_loan_more kind (counts_at m.frames g));
     systems = λ h. refl;
     entries = λ a. refl;
     number = refl;

@@ -14,6 +14,7 @@ use Rattle.genie_object.specs.Objects.{entry_at}
 use Rattle.genie_object.specs.Memory.{Seen, seen, is_kept, page_bytes}
 use Rattle.genie_object.specs.Sound.{IsSound}
 use Rattle.genie_object.specs.Touching.{system_owner}
+use Rattle.genie_object.specs.Lemmas.Touching.{as_many}
 use Rattle.genie_plan.specs.Loans.{LoanKind, Strong, Weak, Input, Loan, output_loans, less, let_go, AreOut, Ended, amount}
 use Rattle.genie_tcow.specs.Lending.{loans_on, see_lent, HasLent, IsTakenBack}
 use Rattle.genie_plan.specs.Lemmas.Ending.{some_or}
@@ -178,6 +179,7 @@ module _ (kind : LoanKind) (id : ℕ) (spoken : ℕ → ℕ → Bool) (loans : L
         bytes = bytes_back f l;
         owner = elim y.owner [ inl d ↦ inl (owner_lent f l ∙ d) | inr d ↦ inr (d.0, owner_lent f l ∙ d.1) ];
       };
+      loans = λ f. as_many (counts_at old.frames f) (counts_at t f) (counts_back f);
       systems = λ f. elim (some_or (loans_on loans f)) [
         | inl h ↦ ap system_owner (e.owners f h) ∙ gone_system (owner_at m.frames f) (counts_at t f) id (x.keeps.taken f h).is ∙ sym (x.keeps.taken f h).was
         | inr z ↦ ap system_owner (e.others f z) ∙ x.keeps.systems f z

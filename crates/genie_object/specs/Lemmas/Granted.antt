@@ -16,6 +16,7 @@ use Rattle.genie_object.specs.Memory.{seen, page_bytes, place_bytes, frame_of}
 use Rattle.genie_object.specs.Sound.{IsSound, IsFramed, IsPrivate}
 use Rattle.genie_object.specs.Steps.{granted, with_bytes}
 use Rattle.genie_object.specs.Touching.{KeepsLoans, Touches}
+use Rattle.genie_object.specs.Lemmas.Touching.{as_many}
 use Rattle.genie_object.specs.Lemmas.Entries.{entry_same, entry_or, times_set, entries_size}
 
 module _ (m : Memory) (o i : ℕ) (writable : Bool) (there : i < length (object_at m.objects o)) where
@@ -66,6 +67,7 @@ module _ (m : Memory) (o i : ℕ) (writable : Bool) (there : i < length (object_
     entry_held = λ a b h e k. ap (frame_of m.pages.pages) (page_granted a b) ∙ e;
     held = λ h k. k;
     lent = λ h l. record { lent = l; bytes = refl; owner = inl refl };
+    loans = λ h. as_many (counts_at m.frames h) (counts_at m.frames h) refl;
     systems = λ h. refl;
     entries = entries_size m.objects o i entry there;
     number = refl;
@@ -138,6 +140,7 @@ module _ (m : Memory) (g : ℕ) (bytes : List ℕ) (sound : IsSound m) (full : l
     entry_held = λ a b h e k. e;
     held = λ h k. k;
     lent = λ h l. record { lent = l; bytes = bytes_other h (λ s. let bad : true ≡ false = sym l ∙ ap (λ n. is_lent (counts_at m.frames n)) s ∙ unlent in cc); owner = inl refl };
+    loans = λ h. as_many (counts_at m.frames h) (counts_at m.frames h) refl;
     systems = λ h. refl;
     entries = λ o. refl;
     number = refl;

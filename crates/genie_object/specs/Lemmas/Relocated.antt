@@ -19,6 +19,7 @@ use Rattle.genie_object.specs.Memory.{seen, is_kept, page_bytes, place_bytes, fr
 use Rattle.genie_object.specs.Sound.{IsSound, IsPlaced, AreSlotted, IsFramed, IsPrivate, is_slot, strong_at}
 use Rattle.genie_object.specs.Steps.{relocated, left_owners, claimed_owners, left_slots, claimed_slots, CanGo, CanClaim, CanClaimFrame, CanClaimSlot, is_frame}
 use Rattle.genie_object.specs.Touching.{KeepsLoans, Touches, Lasts, IsOutside, system_owner}
+use Rattle.genie_object.specs.Lemmas.Touching.{as_many}
 use Rattle.genie_object.specs.Lemmas.Lookup.{in_range, page_known, frame_known, slot_taken, slots_kept, slot_left, slot_come, unowned_not_page, unowned_free, unowned_nobody, kept_left, held_lent, strong_lent, named}
 
 -- what became of frame h once page p went from a place to another
@@ -116,7 +117,7 @@ owners_unseen t owners slots Zero = refl
 owners_unseen t owners slots (Frame g) = refl
 owners_unseen t owners slots (Slot s) = refl
 
-unowned_system : (c : Counts) → system_owner (unowned c) ≡ Free
+pub unowned_system : (c : Counts) → system_owner (unowned c) ≡ Free
 unowned_system c = elim (is_lent c) as (λ b. system_owner (if b then Nobody else Free) ≡ Free) [ true ↦ refl | false ↦ refl ]
 
 module _ (m : Memory) (p : ℕ) (to : Place) (x : CanGo m p to) where
@@ -299,6 +300,7 @@ module _ (m : Memory) (p : ℕ) (to : Place) (x : CanGo m p to) where
     entry_held = λ o i h e k. keeps_frame (entry_at m.objects o i).page h e k;
     held = λ h k. k;
     lent = λ h l. lasts h l (frame_became h);
+    loans = λ h. as_many (counts_at m.frames h) (counts_at m.frames h) refl;
     systems = λ h. systems free h (frame_became h);
     entries = λ o. refl;
     number = left_size m.frames.owners m.frames.counts p from to;

@@ -15,6 +15,7 @@ use Rattle.genie_object.specs.Memory.{page_bytes, place_bytes, frame_of, frame_i
 use Rattle.genie_object.specs.Sound.{IsSound, AreSlotted, IsFramed, IsPrivate, is_slot, times_named}
 use Rattle.genie_object.specs.Steps.{renamed, left_pages, CanRename, fresh_entry}
 use Rattle.genie_object.specs.Touching.{KeepsLoans, Touches, IsOutside}
+use Rattle.genie_object.specs.Lemmas.Touching.{as_many}
 use Rattle.genie_object.specs.Lemmas.Lookup.{page_known, slots_kept, other_at}
 use Rattle.genie_object.specs.Lemmas.Entries.{entry_same, entry_or, times_set, entries_size}
 use Rattle.genie_object.specs.Lemmas.Relocated.{frame_is}
@@ -57,7 +58,7 @@ pub left_most : (t : PageTable) (page : Option PageId) → (left_pages t page).m
 left_most t None = refl
 left_most t (Some p) = refl
 
-count_left : (t : PageTable) (page : Option PageId) → ((p : PageId) → page ≡ Some p → 1 < (page_at t.pages p.0).shares) → ((p : PageId) → page ≡ Some p → p.0 < length t.pages) → count_by is_there (left_pages t page).pages ≡ count_by is_there t.pages
+pub count_left : (t : PageTable) (page : Option PageId) → ((p : PageId) → page ≡ Some p → 1 < (page_at t.pages p.0).shares) → ((p : PageId) → page ≡ Some p → p.0 < length t.pages) → count_by is_there (left_pages t page).pages ≡ count_by is_there t.pages
 count_left t None many there = refl
 count_left t (Some p) many there =
     let h = many p refl in
@@ -204,6 +205,7 @@ module _ (m : Memory) (o i q : ℕ) (x : CanRename m o i q) where
     ];
     held = λ h k. k;
     lent = λ h l. record { lent = l; bytes = refl; owner = inl refl };
+    loans = λ h. as_many (counts_at m.frames h) (counts_at m.frames h) refl;
     systems = λ h. refl;
     entries = entries_size m.objects o i (fresh_entry q) x.there;
     number = refl;

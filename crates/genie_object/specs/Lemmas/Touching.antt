@@ -1,13 +1,29 @@
 -- What one call after another leaves as it was.
-use Rattle.std.proofs.Common.{◌≡◌, ℕ, Bool, true, false, refl, ap, sym, ◌∙◌, inl, inr}
+use Rattle.std.proofs.Common.{◌≡◌, ℕ, ◌<◌, Bool, true, false, refl, ap, arith, sym, ◌∙◌, inl, inr, length, subst}
 use Rattle.std.specs.Prelude.{◌==◌, None, Some}
-use Rattle.genie_frame.specs.FrameTable.{FrameTable, is_page}
+use Rattle.genie_base.specs.Lemmas.Places.{set_at}
+use Rattle.genie_frame.specs.declared.frame.Counts.{Counts}
+use Rattle.genie_frame.specs.FrameTable.{FrameTable, is_page, counts_at, set_counts, no_counts}
 use Rattle.genie_object.specs.declared.pages.PageInfo.{PageInfo}
 use Rattle.genie_object.specs.declared.memory.Memory.{Memory}
 use Rattle.genie_frame.specs.declared.frame.Meters.{Meters}
 use Rattle.genie_object.specs.Sound.{IsSound}
 use Rattle.genie_object.specs.Steps.{metered}
-use Rattle.genie_object.specs.Touching.{KeepsLoans, Touches, Lasts}
+use Rattle.genie_object.specs.Touching.{KeepsLoans, Touches, Lasts, NoFewer}
+
+-- equal counts are no fewer loans
+pub as_many : (old new : Counts) → new ≡ old → NoFewer old new
+as_many old new e = record { strong = omega (arith, ap (λ (c : Counts). c.strong) e); weak = omega (arith, ap (λ (c : Counts). c.weak) e); input = omega (arith, ap (λ (c : Counts). c.input) e) }
+
+pub fewer_on : (a b c : Counts) → NoFewer a b → NoFewer b c → NoFewer a c
+fewer_on a b c x y = record { strong = omega (arith, x.strong, y.strong); weak = omega (arith, x.weak, y.weak); input = omega (arith, x.input, y.input) }
+
+-- one frame that has other counts
+pub fewer_set : (t : FrameTable) (f : ℕ) (new : Counts) → f < length t.counts → NoFewer (counts_at t f) new → (g : ℕ) → NoFewer (counts_at t g) (counts_at (set_counts t f new) g)
+fewer_set t f new l x g = elim (set_at t.counts f g new no_counts l) [
+  | inl v ↦ subst (λ c. NoFewer (counts_at t g) c) (sym v.1) (subst (λ h. NoFewer (counts_at t h) new) (sym v.0) x)
+  | inr v ↦ as_many (counts_at t g) (counts_at (set_counts t f new) g) v.1
+]
 
 pub lasts_on : (a b c : FrameTable) (f : ℕ) → Lasts a b f → Lasts b c f → Lasts a c f
 lasts_on a b c f x y = record {
@@ -30,6 +46,7 @@ keeps_on a b c x y = record {
   entry_held = λ o i f e h. y.entry_held o i f (x.entry_held o i f e h) (x.held f h);
   held = λ f h. y.held f (x.held f h);
   lent = λ f l. let u = x.lent f l in lasts_on a.frames b.frames c.frames f u (y.lent f u.lent);
+  loans = λ f. fewer_on (counts_at a.frames f) (counts_at b.frames f) (counts_at c.frames f) (x.loans f) (y.loans f);
   systems = λ f. y.systems f ∙ x.systems f;
   entries = λ o. y.entries o ∙ x.entries o;
   number = y.number ∙ x.number;
@@ -39,7 +56,7 @@ keeps_on a b c x y = record {
 }
 
 pub keeps_all : (m : Memory) → KeepsLoans m m
-keeps_all m = record { entry_held = λ o i f e h. e; held = λ f h. h; lent = λ f l. record { lent = l; bytes = refl; owner = inl refl }; systems = λ f. refl; entries = λ o. refl; number = refl; page = refl; slots = refl; most = refl }
+keeps_all m = record { entry_held = λ o i f e h. e; held = λ f h. h; lent = λ f l. record { lent = l; bytes = refl; owner = inl refl }; loans = λ f. as_many (counts_at m.frames f) (counts_at m.frames f) refl; systems = λ f. refl; entries = λ o. refl; number = refl; page = refl; slots = refl; most = refl }
 
 pub touches_on : (spoken : ℕ → ℕ → Bool) (a b c : Memory) → Touches spoken a b → Touches spoken b c → Touches spoken a c
 touches_on spoken a b c x y = record {
@@ -75,6 +92,7 @@ keeps_metered a b t x = record {
   entry_held = x.entry_held;
   held = x.held;
   lent = λ f l. let u = x.lent f l in record { lent = u.lent; bytes = u.bytes; owner = u.owner };
+  loans = x.loans;
   systems = x.systems;
   entries = x.entries;
   number = x.number;

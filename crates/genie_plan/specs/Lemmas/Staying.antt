@@ -1,11 +1,12 @@
 -- A plan stays as it is.
-use Rattle.std.proofs.Common.{◌≡◌, ℕ, suc, ◌<◌, true, false, List, [], ◌∷◌, ◌++◌, length, refl, ap, arith, rules, subst, get_or}
+use Rattle.std.proofs.Common.{◌≡◌, ℕ, suc, ◌<◌, ◌≤◌, true, false, List, [], ◌∷◌, ◌++◌, length, refl, ap, arith, rules, subst, get_or}
 use Rattle.genie_base.specs.Bytes.{part}
 use Rattle.genie_frame.specs.declared.frame.OutLoan.{OutLoan}
 use Rattle.genie_frame.specs.declared.frame.Counts.{Counts}
 use Rattle.genie_frame.specs.FrameTable.{counts_at, bytes_at, is_lent}
+use Rattle.genie_object.specs.Touching.{NoFewer}
 use Rattle.genie_plan.specs.Plans.{output_frames, joined}
-use Rattle.genie_plan.specs.Loans.{LoanKind, Strong, Weak, Input, amount, output_kind}
+use Rattle.genie_plan.specs.Loans.{LoanKind, Strong, Weak, Input, amount, one_more, output_kind}
 use Rattle.genie_plan.specs.Staying.{OutputsStay, InputsStay, CallsLeavePlans}
 use Rattle.genie_plan.specs.Lemmas.Ending.{outputs_are}
 use Rattle.genie_plan.specs.Lemmas.Ranges.{out_frame_at, out_frames_count}
@@ -14,6 +15,17 @@ lent_of : (kind : LoanKind) (c : Counts) → 0 < amount kind c → is_lent c ≡
 lent_of Strong c h = grind (arith, rules)
 lent_of Weak c h = grind (arith, rules)
 lent_of Input c h = grind (arith, rules)
+
+amount_kept : (kind : LoanKind) (a b : Counts) → NoFewer a b → amount kind a ≤ amount kind b
+amount_kept Strong a b x = x.strong
+amount_kept Weak a b x = x.weak
+amount_kept Input a b x = x.input
+
+-- one loan more is no fewer loans
+pub one_loan_more : (kind : LoanKind) (c : Counts) → NoFewer c (one_more kind c)
+one_loan_more Strong c = record { strong = omega arith; weak = omega arith; input = omega arith }
+one_loan_more Weak c = record { strong = omega arith; weak = omega arith; input = omega arith }
+one_loan_more Input c = record { strong = omega arith; weak = omega arith; input = omega arith }
 
 -- frames that keep their bytes
 joined_same : (frames : List ℕ) (old new : List (List ℕ)) → ((k : ℕ) → k < length frames → get_or new (get_or frames k 0) [] ≡ get_or old (get_or frames k 0) []) → joined new frames ≡ joined old frames
@@ -46,4 +58,4 @@ outputs_stay old new loans first len x r = record {
 }
 
 pub calls_leave_plans : CallsLeavePlans
-calls_leave_plans old new k none = record { page = k.page; loans = none; bytes = λ f l. (k.lent f l).bytes }
+calls_leave_plans old new k = record { page = k.page; loans = λ kind f. amount_kept kind (counts_at old.frames f) (counts_at new.frames f) (k.loans f); bytes = λ f l. (k.lent f l).bytes }

@@ -171,6 +171,7 @@ module _ (m : Memory) (t : FrameTable) (s : IsSound m) (x : SameButWires m.frame
       entry_held = λ a b f e h. e;
       held = λ f h. held_same f ∙ h;
       lent = λ f l. record { lent = lent_same f ∙ l; bytes = ap (λ bs. get_or bs f []) x.only.bytes; owner = inl (owner_same f) };
+      loans = λ f. record { strong = omega (arith, strong_same f); weak = omega (arith, ap (λ (c : Counts). c.weak) (x.counts f)); input = omega (arith, ap (λ (c : Counts). c.input) (x.counts f)) };
       systems = λ f. ap system_owner (owner_same f);
       entries = λ o. refl;
       number = ap length x.only.owners;
