@@ -21,3 +21,4 @@ pub mod Handles
 pub mod Booting
 pub mod Same
 pub mod Laws
+pub mod Lemmas
