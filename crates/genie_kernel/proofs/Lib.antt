@@ -1,0 +1,4 @@
+pub mod Orders
+pub mod Eight
+pub mod Pools
+pub mod Boots
