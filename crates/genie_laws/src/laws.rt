@@ -1,5 +1,5 @@
 //! Laws of the flat machine.
-ghost use Rattle.genie_laws.specs.Integrity.{OutputsKeepIntegrity, InputsKeepIntegrity, CoveredBytesStay, WeakTransfersKeepBytes};
+ghost use Rattle.genie_laws.specs.Integrity.{OutputsKeepIntegrity, OutputsAreSentWhole, InputsKeepIntegrity, CoveredBytesStay, WeakTransfersKeepBytes};
 ghost use Rattle.genie_laws.specs.Streams.{InputsGetRecords};
 ghost use Rattle.genie_laws.specs.Laws.{RefusalsChangeNothing, LevelsStepAlike, ThresholdsStepAlike, RunsAlike, RunsCount, MovesAreNotLost};
 
@@ -46,6 +46,15 @@ pub fn moves_are_not_lost()
 /// call, and each byte of a weak one's stood in its place in a state from the call on.
 pub fn outputs_keep_integrity()
     ensures { OutputsKeepIntegrity }
+{
+    laws::boot_is_orderly();
+    laws::steps_stay_orderly();
+}
+
+/// No record is sent in part but that of the first output that waits: of the accepted outputs of a device the last ones
+/// wait, and the records of all others, the ready ones too, were sent whole.
+pub fn outputs_are_sent_whole()
+    ensures { OutputsAreSentWhole }
 {
     laws::boot_is_orderly();
     laws::steps_stay_orderly();
