@@ -6,3 +6,4 @@ pub mod Records
 pub mod SendSteps
 pub mod Sent
 pub mod Turns
+pub mod Whole
