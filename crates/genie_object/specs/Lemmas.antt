@@ -14,6 +14,7 @@ pub mod Named
 pub mod Naming
 pub mod ObjectLaws
 pub mod Parted
+pub mod PlaceOf
 pub mod Relocated
 pub mod Removed
 pub mod Renamed
