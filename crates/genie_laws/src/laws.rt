@@ -58,6 +58,7 @@ pub fn outputs_are_sent_whole()
 {
     laws::boot_is_orderly();
     laws::steps_stay_orderly();
+    laws::runs_stay_orderly();
 }
 
 /// A receive step leaves each byte, or stores the payload's byte where the weak input that its record meets covers it; so a
