@@ -1,4 +1,5 @@
 -- What devices send.
+pub mod Called
 pub mod Events
 pub mod Ranges
 pub mod ReceiveSteps

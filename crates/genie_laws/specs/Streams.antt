@@ -7,10 +7,22 @@ use Rattle.genie_base.specs.Headers.{size_of_header, is_whole_header, is_format,
 use Rattle.genie_base.specs.Posted.{meets_flow}
 use Rattle.genie_base.specs.Transfers.{is_strong}
 use Rattle.genie_base.specs.declared.event.Event.{Event}
+use Rattle.genie_base.specs.declared.event.Event.TheVariants.{Finish}
+use Rattle.genie_base.specs.declared.reply.Mark.{Mark}
+use Rattle.genie_base.specs.declared.reply.Note.{Note}
 use Rattle.genie_base.specs.declared.reply.Reply.{Reply}
-use Rattle.genie_model.specs.State.{State, Transfer, Device, Datagram, boot}
+use Rattle.genie_base.specs.declared.reply.Reply.TheVariants as reply
+use Rattle.genie_base.specs.declared.semantics.Class.{Class}
+use Rattle.genie_base.specs.declared.semantics.Class.TheVariants.{Copy, Share, Move, WeakMove}
+use Rattle.genie_model.specs.State.{State, Region, Transfer, Device, Datagram, boot}
 use Rattle.genie_model.specs.Tables.{entry}
-use Rattle.genie_model.specs.Pending.{is_inward, is_early_at}
+use Rattle.genie_model.specs.Pending.{is_inward, is_early_at, pending}
+use Rattle.genie_model.specs.Regions.{bytes_of, write_reach_of}
+use Rattle.genie_model.specs.Inputs.{address_or_zero}
+use Rattle.genie_model.specs.Ending.{region_of}
+use Rattle.genie_orderly.specs.Orderly.{IsOrderly}
+use Rattle.genie_orderly.specs.Steps.{is_refused}
+use Rattle.genie_laws.specs.Integrity.{late_region, start_in}
 use Rattle.genie_model.specs.Receiving.{note_of, kept}
 use Rattle.genie_model.specs.Step.{step, Follows}
 use Rattle.genie_model.specs.declared.phase.Phase.{Phase}
@@ -109,3 +121,26 @@ Takes stream d taken s es rs = HasTaken stream d taken s
 -- So each device takes the records of its input in their order, and a ready input has the front of one of them.
 abbrev pub InputsGetRecords : Type 0
 InputsGetRecords = (c : Config) (inputs : ℕ → List ℕ) (es : List Event) (rs : List Reply) (last : State) (d : ℕ) → Fits c → All (λ (e : Event). IsTrue (is_whole e)) es → Follows (boot c inputs) es rs last → Takes (inputs d) d [] (boot c inputs) es rs
+
+-- The region in which the end of input t of process p stores its payload: a copy's where a write of its range reaches now, a
+-- move's is its own, and a weak input's is the one that it names, unless the bytes have landed there before.
+abbrev pub stores_in : State → ℕ → Transfer → Class → Option Region
+stores_in s p t Copy = write_reach_of s p (address_or_zero t.addr) t.len
+stores_in s p t Share = late_region s t
+stores_in s p t Move = region_of s t
+stores_in s p t WeakMove = late_region s t
+
+-- the reply tells so many bytes, and this note
+abbrev pub Tells : Reply → ℕ → Note → Type 0
+Tells (reply.Input address count note) n is = (count ≡ n) × (note ≡ is)
+Tells _ n is = ⊥
+
+-- the front of the record's payload that fits the buffer stands at the buffer's start, and the reply tells its length
+pub record StoresFront (s next : State) (answer : Reply) (t : Transfer) (region : Region) (r : Taken) : Type 0 where
+  pub bytes : bytes_of next region.number (start_in s t t.class region) (length (take t.len r.payload)) ≡ take t.len r.payload
+  pub reply : Tells answer (length (take t.len r.payload)) t.note
+
+-- So `done` of an input that got a record stores the front of its payload.
+abbrev pub DoneStoresRecords : Type 0
+DoneStoresRecords = (s : State) (k p : ℕ) (m : Mark) (t : Transfer) (region : Region) (r : Taken) → IsOrderly s → pending s k ≡ Some t → IsTrue (is_inward t.direction) → t.owner ≡ Some p → HasGot (is_early_at s t.device) t r → stores_in s p t t.class ≡ Some region
+    → is_refused (step s (Finish k) m).1 ≡ false → StoresFront s (step s (Finish k) m).0 (step s (Finish k) m).1 t region r

@@ -1,6 +1,6 @@
 //! Laws of the flat machine.
 ghost use Rattle.genie_laws.specs.Integrity.{OutputsKeepIntegrity, OutputsAreSentWhole, InputsKeepIntegrity, CoveredBytesStay, WeakTransfersKeepBytes};
-ghost use Rattle.genie_laws.specs.Streams.{InputsGetRecords};
+ghost use Rattle.genie_laws.specs.Streams.{InputsGetRecords, DoneStoresRecords};
 ghost use Rattle.genie_laws.specs.Laws.{RefusalsChangeNothing, LevelsStepAlike, ThresholdsStepAlike, RunsAlike, RunsCount, MovesAreNotLost};
 
 use genie_orderly::laws;
@@ -58,6 +58,7 @@ pub fn outputs_are_sent_whole()
 {
     laws::boot_is_orderly();
     laws::steps_stay_orderly();
+    laws::runs_stay_orderly();
 }
 
 /// A receive step leaves each byte, or stores the payload's byte where the weak input that its record meets covers it; so a
@@ -76,6 +77,12 @@ pub fn inputs_get_records()
     laws::boot_is_orderly();
     laws::steps_stay_orderly();
 }
+
+/// `done` of an input that got a record stores the front of its payload at the buffer's start, and tells its length; but for
+/// a weak input on an early device, where the bytes have landed before.
+pub fn done_stores_records()
+    ensures { DoneStoresRecords }
+{}
 
 /// Every event leaves a byte that a pending weak transfer covers before and after it, but where it is a write, a receive
 /// step or a `done` that stores the new byte there.

@@ -1,7 +1,8 @@
 -- The records that a device has sent whole are those of the outputs that don't wait any more.
-use Rattle.std.proofs.Common.{◌≡◌, ℕ, zero, suc, ◌+◌, ◌-◌, ◌<◌, ◌≤◌, List, [], ◌∷◌, ◌++◌, length, take, drop, map, filter, get_or, append-nil, append_assoc, refl, sym, ap, ap₂, subst, ◌∙◌, true≢false, arith}
+use Rattle.std.proofs.Common.{◌≡◌, ◌⊎◌, inl, inr, ⊎_elim, ℕ, zero, suc, ◌+◌, ◌-◌, ◌<◌, ◌≤◌, true, ◌==◌, AllPairs, List, [], ◌∷◌, ◌++◌, length, take, drop, map, filter, get_or, append-nil, append_assoc, refl, sym, ap, ap₂, subst, ◌∙◌, true≢false, arith}
 use Rattle.std.specs.Prelude.{⊤, All, IsTrue}
-use Rattle.std.proofs.lemmas.Bool.{cond_both}
+use Rattle.std.specs.List.{Any}
+use Rattle.std.proofs.lemmas.Bool.{cond_both, and_parts}
 use Rattle.std.proofs.lemmas.List.{length-append, length-take-le, length-drop, take_all}
 use Rattle.std.proofs.lemmas.List.Elements.{All-cons, All-head, All-tail, All-push}
 use Rattle.genie_base.specs.Bytes.{part}
@@ -11,14 +12,18 @@ use Rattle.genie_base.specs.declared.event.Event.{Event}
 use Rattle.genie_base.specs.declared.reply.Reply.{Reply}
 use Rattle.genie_base.specs.declared.semantics.Class.{Class}
 use Rattle.genie_base.specs.declared.semantics.Class.TheVariants.{Copy, Share, Move, WeakMove}
-use Rattle.genie_model.specs.Pending.{waits_for}
+use Rattle.genie_model.specs.Pending.{is_queued, is_ready, waits_for}
+use Rattle.genie_model.specs.declared.phase.Phase.{Phase}
+use Rattle.genie_model.specs.declared.phase.Phase.TheVariants.{Queued}
+use Rattle.genie_model.specs.Lemmas.Lists.{Has, has_at}
+use Rattle.genie_laws.proofs.Outputs.Called.{Called, run_called}
 use Rattle.genie_model.specs.Sending.{sent_of, record_of, unsent, after_staging}
 use Rattle.genie_model.specs.State.{State, Transfer, boot}
 use Rattle.genie_model.specs.Step.{step, Follows}
-use Rattle.genie_model.specs.Lemmas.SendQueues.{plain, queue}
+use Rattle.genie_model.specs.Lemmas.SendQueues.{plain, queue, same_number}
 use Rattle.genie_orderly.specs.Orderly.{IsOrderly}
-use Rattle.genie_orderly.specs.Steps.{Stays, BootIsOrderly}
-use Rattle.genie_laws.specs.Integrity.{Accepted, accepted, outputs, states, HasPayload, IsPayload, ArePayloads, records, SendsRecords, SendsWhole, OutputsAreSentWhole}
+use Rattle.genie_orderly.specs.Steps.{Stays, BootIsOrderly, RunsStayOrderly}
+use Rattle.genie_laws.specs.Integrity.{Accepted, accepted, outputs, states, HasPayload, IsPayload, ArePayloads, records, SendsRecords, SendsWhole, IsCallOf, IsAmong, OutputsAreSentWhole}
 use Rattle.genie_laws.proofs.Outputs.ReceiveSteps.{Meets}
 use Rattle.genie_laws.proofs.Outputs.Records.{Waits, AreUnsent, AreWaiting, begun, begun_more, begun_none, header_length, HasLength, IsCall, Sends, sends_whole, moved_on}
 use Rattle.genie_laws.proofs.Outputs.Turns.{Turn, still, called, stages, sends, ends, turn_waiting}
@@ -195,8 +200,39 @@ split_at (x ∷ a) b (y ∷ c) left e short =
     let first : y ≡ x = sym (ap (λ l. get_or l 0 0) e) in
     (rest.0, ap₂ (λ n l. n ∷ l) first rest.1, rest.2)
 
-pub outputs_are_sent_whole : BootIsOrderly → Stays IsOrderly → OutputsAreSentWhole
-outputs_are_sent_whole boots stay c inputs es rs last d fits whole f =
+any_either : (P : Accepted → Type 0) (xs ys : List Accepted) → Any P (xs ++ ys) → Any P xs ⊎ Any P ys
+any_either P [] ys h = inr h
+any_either P (x ∷ xs) ys (zero, q, lt, is, p) = inl (0, q, omega arith, is, p)
+any_either P (x ∷ xs) ys (suc k, q, lt, is, p) = ⊎_elim (λ (h : Any P xs). inl (suc h.0, h.1, omega (arith, h.2), h.3, h.4)) inr (any_either P xs ys (k, q, omega (arith, lt), is, p))
+
+-- the number of one that waits
+number_of_one : (t : Transfer) (xs : List Accepted) → Any (IsCallOf t) xs → Has t.number (map (λ (o : Accepted). o.number) xs)
+number_of_one t [] h = absurd (omega (arith, h.2))
+number_of_one t (x ∷ xs) (zero, q, lt, is, p) = inl (ap (λ (o : Accepted). o.number) is ∙ p.0)
+number_of_one t (x ∷ xs) (suc k, q, lt, is, p) = inr (number_of_one t xs (k, q, omega (arith, lt), is, p))
+
+one_waits : (d n : ℕ) (ts : List Transfer) → Has n (map (λ (t : Transfer). t.number) (filter (waits_for d) ts)) → (w : Transfer) × Has w ts × (waits_for d w ≡ true) × (w.number ≡ n)
+one_waits d n [] h = absurd h
+one_waits d n (t ∷ ts) h = cond_both (waits_for d t) (t ∷ filter (waits_for d) ts) (filter (waits_for d) ts) (λ l. Has n (map (λ (t : Transfer). t.number) l) → (w : Transfer) × Has w (t ∷ ts) × (waits_for d w ≡ true) × (w.number ≡ n))
+    (λ waits g. ⊎_elim (λ (same : t.number ≡ n). (t, inl refl, waits, same)) (λ later. let r = one_waits d n ts later in (r.0, inr r.1, r.2, r.3)) g)
+    (λ _ g. let r = one_waits d n ts g in (r.0, inr r.1, r.2, r.3)) h
+
+ready_waits : (phase : Phase) → is_queued phase ≡ true → is_ready phase ≡ true → ⊥
+ready_waits Queued q r = true≢false (sym r)
+ready_waits phase q r = true≢false (sym q)
+
+-- a ready one doesn't wait
+ready_over : (d : ℕ) (over waiting : List Accepted) (ts : List Transfer) → AllPairs (λ (t u : Transfer). t.number < u.number) ts → map (λ (o : Accepted). o.number) waiting ≡ map (λ (t : Transfer). t.number) (filter (waits_for d) ts) → All (Called d (over ++ waiting)) ts → All (IsAmong over d) ts
+ready_over d over waiting ts order numbers each i c lt out at ready = ⊎_elim (λ h. h)
+    (λ waits.
+    let t = get_or ts i c in
+    let one = one_waits d t.number ts (subst (Has t.number) numbers (number_of_one t waiting waits)) in
+    let same = same_number ts order one.0 t one.1 (has_at ts i c lt) one.3 in
+    absurd (ready_waits t.phase (and_parts (is_queued t.phase) (t.device == d) (subst (λ x. waits_for d x ≡ true) same one.2)).0 ready))
+    (any_either (IsCallOf (get_or ts i c)) over waiting (each i c lt out at))
+
+pub outputs_are_sent_whole : BootIsOrderly → Stays IsOrderly → RunsStayOrderly → OutputsAreSentWhole
+outputs_are_sent_whole boots stay follow c inputs es rs last d fits whole f =
     let start : State = boot c inputs in
     let sends = outputs_keep_integrity boots stay c inputs es rs last d fits whole f in
     let none : Split [] (queue d start.transfers) (sent_of start d) = record { over = []; waiting = []; all = refl; are = tt; count = ap length (boot_sent inputs c.devices 0 d); long = λ k x lt. absurd (omega arith) } in
@@ -218,4 +254,6 @@ outputs_are_sent_whole boots stay c inputs es rs last d fits whole f =
       sent = at.1;
       left = sends.left;
       front = at.2;
+      ready = ready_over d h.over h.waiting last.transfers (follow c inputs es rs last fits whole f).transfers.order (waiting_numbers d h.waiting last.transfers h.are)
+          (subst (λ l. All (Called d l) last.transfers) h.all (run_called d [] start es rs last (λ i x lt. absurd (omega arith)) f));
     }
