@@ -9,6 +9,7 @@ pub mod Keeping
 pub mod OpenHandles
 pub mod Processes
 pub mod Removing
+pub mod Searching
 pub mod Staying
 pub mod Stepping
 pub mod Tidying

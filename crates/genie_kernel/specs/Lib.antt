@@ -1,6 +1,7 @@
 pub mod Loans
 pub mod Order
 pub mod Calls
+pub mod Searches
 pub mod Regions
 pub mod Orphans
 pub mod Transfers

@@ -56,7 +56,7 @@ map_without p q f same (x ∷ xs) = elim (p x) as (λ b. q (f x) ≡ b → map f
 ] (same x)
 
 -- removal at the place of the first one that passes
-removed_at : {X : Type 0} (p : X → Bool) (d : X) (xs : List X) (k : ℕ) → k < length xs → p (get_or xs k d) ≡ true → ((i : ℕ) → i < k → p (get_or xs i d) ≡ false) → remove xs k ≡ without p xs
+pub removed_at : {X : Type 0} (p : X → Bool) (d : X) (xs : List X) (k : ℕ) → k < length xs → p (get_or xs k d) ≡ true → ((i : ℕ) → i < k → p (get_or xs i d) ≡ false) → remove xs k ≡ without p xs
 removed_at p d [] k l e h = absurd (omega arith)
 removed_at p d (x ∷ xs) zero l e h = rw e refl
 removed_at p d (x ∷ xs) (suc k) l e h = rw (h 0 (omega arith)) (ap (λ ys. x ∷ ys) (removed_at p d xs k (omega arith) e (λ i m. h (suc i) (omega arith))))
