@@ -1,0 +1,7 @@
+pub mod Places
+pub mod Lying
+pub mod Left
+pub mod Gained
+pub mod Removed
+pub mod Ended
+pub mod Begun
