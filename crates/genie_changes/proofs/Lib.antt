@@ -5,3 +5,8 @@ pub mod Gained
 pub mod Removed
 pub mod Ended
 pub mod Begun
+pub mod Counting
+pub mod Owning
+pub mod Beside
+pub mod Fewer
+pub mod Holding

@@ -2,4 +2,5 @@
 //! state that a kernel stands for, and on the parts of what is true of it.
 #![tactic(auto)]
 
+pub mod parts;
 pub mod states;
