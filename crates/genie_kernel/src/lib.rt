@@ -1,0 +1,11 @@
+//! What a kernel is: its tables, the flat state that it stands for, and what is true of every kernel.
+#![tactic(auto)]
+
+pub mod kernel;
+pub mod laws;
+pub mod transfer;
+pub mod transfers;
+
+pub use crate::kernel::Kernel;
+pub use crate::transfer::{Loans, Transfer};
+pub use crate::transfers::{MOST_PENDING, Transfers};

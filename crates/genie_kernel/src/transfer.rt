@@ -1,0 +1,77 @@
+//! A pending transfer.
+ghost use Rattle.std.specs.Prelude.{◌≡◌};
+ghost use Rattle.genie_model.specs.Pending.{is_inward};
+ghost use Rattle.genie_kernel.specs.Calls.{has_number, is_named, is_weak_input_into};
+
+use genie_base::{Direction, Note, RegionId, Semantics, TransferId};
+use genie_model::Phase;
+use genie_plan::{InPlan, OutPlan};
+
+/// The frames that are lent for a transfer.
+#[derive(Drop)]
+pub enum Loans {
+    Nothing,
+    Outward(OutPlan),
+    Inward(InPlan),
+}
+
+/// A pending transfer. It holds no payload bytes: they are in the frames that are lent for it, in the buffer that it has,
+/// or in its device.
+#[derive(Drop)]
+pub struct Transfer {
+    pub id: TransferId,
+    /// The process that made the call, until that is gone.
+    pub owner: Option<u32>,
+    pub sem: Semantics,
+    pub dir: Direction,
+    pub dev: u32,
+    pub port: u16,
+    pub flow: Option<u32>,
+    /// The address of a copy input, else 0.
+    pub addr: u32,
+    /// The region of a weak transfer, or the one that is held for a move input.
+    pub region: Option<RegionId>,
+    /// Where the range of an output or a weak input begins in its region, else 0.
+    pub offset: u32,
+    /// How many bytes its buffer has.
+    pub len: u32,
+    pub phase: Phase,
+    pub loans: Loans,
+    /// The buffer of a pool, or of outboard memory, of a ready input on a device that isn't early.
+    pub buffer: Option<u32>,
+    /// How many bytes are stored of an input.
+    pub stored: u32,
+    pub note: Note,
+}
+
+fn is_inward(direction: Direction) -> bool
+    ensures { result ≡ is_inward direction }
+{
+    matches!(direction, Direction::Inward)
+}
+
+// Whether the region is the one with this number.
+fn is_named(region: Option<RegionId>, number: u32) -> bool
+    ensures { result ≡ is_named region number }
+{
+    match region {
+        Some(id) => id.0 == number,
+        None => false,
+    }
+}
+
+impl Transfer {
+    /// Whether it has this number.
+    pub fn has_number(&self, id: u32) -> bool
+        ensures { result ≡ has_number id self.now }
+    {
+        self.id.0 == id
+    }
+
+    /// Whether it is a weak input of this region or orphan.
+    pub fn is_weak_input_into(&self, region: u32) -> bool
+        ensures { result ≡ is_weak_input_into region self.now }
+    {
+        is_inward(self.dir) && !self.sem.strong() && is_named(self.region, region)
+    }
+}
