@@ -3,4 +3,5 @@ pub mod Events
 pub mod ReceiveSteps
 pub mod Records
 pub mod Runs
+pub mod Stored
 pub mod Walks

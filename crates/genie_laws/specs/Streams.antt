@@ -144,3 +144,20 @@ pub record StoresFront (s next : State) (answer : Reply) (t : Transfer) (region 
 abbrev pub DoneStoresRecords : Type 0
 DoneStoresRecords = (s : State) (k p : ℕ) (m : Mark) (t : Transfer) (region : Region) (r : Taken) → IsOrderly s → pending s k ≡ Some t → IsTrue (is_inward t.direction) → t.owner ≡ Some p → HasGot (is_early_at s t.device) t r → stores_in s p t t.class ≡ Some region
     → is_refused (step s (Finish k) m).1 ≡ false → StoresFront s (step s (Finish k) m).0 (step s (Finish k) m).1 t region r
+
+-- The input got one of these records, and this step stored its front.
+abbrev pub StoresOne : List Taken → State → State → Reply → Transfer → Region → Type 0
+StoresOne taken s next answer t region = Any (λ (r : Taken). HasGot (is_early_at s t.device) t r × StoresFront s next answer t region r) taken
+
+-- the device has taken records, and the input got one of them
+abbrev pub StoresTaken : List ℕ → State → State → Reply → Transfer → Region → Type 0
+StoresTaken stream s next answer t region = (taken : List Taken) × HasTaken stream t.device taken s × StoresOne taken s next answer t region
+
+-- In a state of a run whose devices have these inputs, whatever a `done` of an input stores is the front of a record of its
+-- device's input.
+abbrev pub StoresFromInput : (ℕ → List ℕ) → State → Type 0
+StoresFromInput inputs s = (k p : ℕ) (m : Mark) (t : Transfer) (region : Region) → pending s k ≡ Some t → IsTrue (is_inward t.direction) → t.owner ≡ Some p → stores_in s p t t.class ≡ Some region
+    → is_refused (step s (Finish k) m).1 ≡ false → StoresTaken (inputs t.device) s (step s (Finish k) m).0 (step s (Finish k) m).1 t region
+
+abbrev pub RunsStoreFromInput : Type 0
+RunsStoreFromInput = (c : Config) (inputs : ℕ → List ℕ) (es : List Event) (rs : List Reply) (last : State) → Fits c → All (λ (e : Event). IsTrue (is_whole e)) es → Follows (boot c inputs) es rs last → StoresFromInput inputs last
