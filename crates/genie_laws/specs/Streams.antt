@@ -1,13 +1,14 @@
 -- What devices take of their input: records, one after the other, each of which goes to at most one input call.
-use Rattle.std.specs.Prelude.{◌≡◌, ◌≢◌, ℕ, ◌<◌, Bool, true, false, not, ◌&&◌, nat_lt, IsTrue, List, [], ◌∷◌, ◌++◌, length, take, drop, slice_index, All, AllPairs, Option, None, Some, IfSome, ⊤}
+use Rattle.std.specs.Prelude.{◌≡◌, ◌≢◌, ◌⊎◌, ℕ, ◌-◌, ◌<◌, Bool, true, false, not, ◌&&◌, nat_lt, IsTrue, List, [], ◌∷◌, ◌++◌, length, take, drop, slice_index, All, AllPairs, Option, None, Some, IfSome, ⊤}
 use Rattle.std.specs.List.{Any}
+use Rattle.genie_base.specs.Bytes.{part}
 use Rattle.genie_base.specs.Configs.{Config, Fits}
 use Rattle.genie_base.specs.Events.{is_whole, mark_of}
 use Rattle.genie_base.specs.Headers.{size_of_header, is_whole_header, is_format, port_in, len_in, flow_in}
 use Rattle.genie_base.specs.Posted.{meets_flow}
 use Rattle.genie_base.specs.Transfers.{is_strong}
 use Rattle.genie_base.specs.declared.event.Event.{Event}
-use Rattle.genie_base.specs.declared.event.Event.TheVariants.{Finish}
+use Rattle.genie_base.specs.declared.event.Event.TheVariants.{Recv, Finish}
 use Rattle.genie_base.specs.declared.reply.Mark.{Mark}
 use Rattle.genie_base.specs.declared.reply.Note.{Note}
 use Rattle.genie_base.specs.declared.reply.Reply.{Reply}
@@ -22,7 +23,7 @@ use Rattle.genie_model.specs.Inputs.{address_or_zero}
 use Rattle.genie_model.specs.Ending.{region_of}
 use Rattle.genie_orderly.specs.Orderly.{IsOrderly}
 use Rattle.genie_orderly.specs.Steps.{is_refused}
-use Rattle.genie_laws.specs.Integrity.{late_region, start_in}
+use Rattle.genie_laws.specs.Integrity.{Landed, late_region, start_in}
 use Rattle.genie_model.specs.Receiving.{note_of, kept}
 use Rattle.genie_model.specs.Step.{step, Follows}
 use Rattle.genie_model.specs.declared.phase.Phase.{Phase}
@@ -161,3 +162,25 @@ StoresFromInput inputs s = (k p : ℕ) (m : Mark) (t : Transfer) (region : Regio
 
 abbrev pub RunsStoreFromInput : Type 0
 RunsStoreFromInput = (c : Config) (inputs : ℕ → List ℕ) (es : List Event) (rs : List Reply) (last : State) → Fits c → All (λ (e : Event). IsTrue (is_whole e)) es → Follows (boot c inputs) es rs last → StoresFromInput inputs last
+
+-- the byte is byte j of the payload of the record with which these bytes begin
+pub record IsPayloadByte (bytes : List ℕ) (j : ℕ) (byte : List ℕ) : Type 0 where
+  pub header : List ℕ
+  pub behind : List ℕ
+  pub whole : length header ≡ size_of_header header
+  pub split : bytes ≡ header ++ behind
+  pub within : j < len_in header
+  pub is : byte ≡ part j 1 behind
+
+-- what a receive step of device d landed at place x of region or orphan k is the byte, for that place of a weak input's
+-- buffer, of the record that comes behind those that were taken
+pub record LandedFromNext (stream : List ℕ) (taken : List Taken) (s : State) (d k x : ℕ) (byte : List ℕ) : Type 0 where
+  pub landed : Landed s d k x byte
+  pub left : List ℕ
+  pub next : Consists stream taken left
+  pub payload : IsPayloadByte left (x - landed.input.offset) byte
+
+-- So the bytes that land in the region of a weak input on an early device are those of one record too.
+abbrev pub LandedBytesAreNext : Type 0
+LandedBytesAreNext = (stream : List ℕ) (taken : List Taken) (s : State) (d n : ℕ) (m : Mark) (k x : ℕ) → IsOrderly s → HasTaken stream d taken s
+    → (bytes_of (step s (Recv d n) m).0 k x 1 ≡ bytes_of s k x 1) ⊎ LandedFromNext stream taken s d k x (bytes_of (step s (Recv d n) m).0 k x 1)

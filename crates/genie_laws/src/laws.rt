@@ -1,6 +1,6 @@
 //! Laws of the flat machine.
 ghost use Rattle.genie_laws.specs.Integrity.{OutputsKeepIntegrity, OutputsAreSentWhole, InputsKeepIntegrity, CoveredBytesStay, WeakTransfersKeepBytes};
-ghost use Rattle.genie_laws.specs.Streams.{InputsGetRecords, DoneStoresRecords, RunsStoreFromInput};
+ghost use Rattle.genie_laws.specs.Streams.{InputsGetRecords, DoneStoresRecords, RunsStoreFromInput, LandedBytesAreNext};
 ghost use Rattle.genie_laws.specs.Laws.{RefusalsChangeNothing, LevelsStepAlike, ThresholdsStepAlike, RunsAlike, RunsCount, MovesAreNotLost};
 
 use genie_orderly::laws;
@@ -82,6 +82,12 @@ pub fn inputs_get_records()
 /// a weak input on an early device, where the bytes have landed before.
 pub fn done_stores_records()
     ensures { DoneStoresRecords }
+{}
+
+/// The bytes that a receive step lands in the region of a weak input are those of the record that comes next.
+#[tactic(auto, using(crate::proofs::Streams::Landed::landed_bytes_are_next))]
+pub fn landed_bytes_are_next()
+    ensures { LandedBytesAreNext }
 {}
 
 /// So what a `done` stores at the end of any run is the front of a record of its device's input.

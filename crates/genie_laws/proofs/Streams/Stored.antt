@@ -1,6 +1,6 @@
 -- What a `done` stores at the end of a run is the front of a record that was taken.
-use Rattle.std.proofs.Common.{◌≡◌, ℕ, Bool, true, false, List, [], ◌∷◌, ◌++◌, All, refl, sym, ap, subst, ◌∙◌, true≢false}
-use Rattle.std.specs.Prelude.{Option, Some, None, IsTrue}
+use Rattle.std.proofs.Common.{◌≡◌, ℕ, Bool, true, false, List, [], ◌∷◌, ◌++◌, refl, sym, ap, subst, ◌∙◌, true≢false}
+use Rattle.std.specs.Prelude.{Option, Some, None}
 use Rattle.std.specs.List.{Any}
 use Rattle.genie_base.specs.Events.{mark_of}
 use Rattle.genie_base.specs.declared.event.Event.{Event}
@@ -10,8 +10,8 @@ use Rattle.genie_base.specs.declared.reply.Mark.{Mark}
 use Rattle.genie_base.specs.declared.reply.Reply.{Reply}
 use Rattle.genie_model.specs.declared.phase.Phase.{Phase}
 use Rattle.genie_model.specs.declared.phase.Phase.TheVariants.{Queued, Posted, Moving, Ready}
-use Rattle.genie_model.specs.State.{State, Region, Transfer, boot}
-use Rattle.genie_model.specs.Pending.{is_ready, is_early_at, is_numbered, pending}
+use Rattle.genie_model.specs.State.{State, Transfer, boot}
+use Rattle.genie_model.specs.Pending.{is_ready, is_early_at, is_numbered}
 use Rattle.genie_model.specs.Refusing.{refuse, is_finished}
 use Rattle.genie_model.specs.Step.{answer, step, Follows}
 use Rattle.genie_model.specs.Lemmas.Lists.{all_has, find_has}
