@@ -1,13 +1,14 @@
 -- What devices take of their input: records, one after the other, each of which goes to at most one input call.
-use Rattle.std.specs.Prelude.{◌≡◌, ◌≢◌, ℕ, ◌<◌, Bool, true, false, not, ◌&&◌, nat_lt, IsTrue, List, [], ◌∷◌, ◌++◌, length, take, drop, slice_index, All, AllPairs, Option, None, Some, IfSome, ⊤}
+use Rattle.std.specs.Prelude.{◌≡◌, ◌≢◌, ◌⊎◌, ℕ, ◌-◌, ◌<◌, Bool, true, false, not, ◌&&◌, nat_lt, IsTrue, List, [], ◌∷◌, ◌++◌, length, take, drop, slice_index, All, AllPairs, Option, None, Some, IfSome, ⊤}
 use Rattle.std.specs.List.{Any}
+use Rattle.genie_base.specs.Bytes.{part}
 use Rattle.genie_base.specs.Configs.{Config, Fits}
 use Rattle.genie_base.specs.Events.{is_whole, mark_of}
 use Rattle.genie_base.specs.Headers.{size_of_header, is_whole_header, is_format, port_in, len_in, flow_in}
 use Rattle.genie_base.specs.Posted.{meets_flow}
 use Rattle.genie_base.specs.Transfers.{is_strong}
 use Rattle.genie_base.specs.declared.event.Event.{Event}
-use Rattle.genie_base.specs.declared.event.Event.TheVariants.{Finish}
+use Rattle.genie_base.specs.declared.event.Event.TheVariants.{Recv, Finish}
 use Rattle.genie_base.specs.declared.reply.Mark.{Mark}
 use Rattle.genie_base.specs.declared.reply.Note.{Note}
 use Rattle.genie_base.specs.declared.reply.Reply.{Reply}
@@ -22,7 +23,7 @@ use Rattle.genie_model.specs.Inputs.{address_or_zero}
 use Rattle.genie_model.specs.Ending.{region_of}
 use Rattle.genie_orderly.specs.Orderly.{IsOrderly}
 use Rattle.genie_orderly.specs.Steps.{is_refused}
-use Rattle.genie_laws.specs.Integrity.{late_region, start_in}
+use Rattle.genie_laws.specs.Integrity.{Landed, late_region, start_in}
 use Rattle.genie_model.specs.Receiving.{note_of, kept}
 use Rattle.genie_model.specs.Step.{step, Follows}
 use Rattle.genie_model.specs.declared.phase.Phase.{Phase}
@@ -144,3 +145,42 @@ pub record StoresFront (s next : State) (answer : Reply) (t : Transfer) (region 
 abbrev pub DoneStoresRecords : Type 0
 DoneStoresRecords = (s : State) (k p : ℕ) (m : Mark) (t : Transfer) (region : Region) (r : Taken) → IsOrderly s → pending s k ≡ Some t → IsTrue (is_inward t.direction) → t.owner ≡ Some p → HasGot (is_early_at s t.device) t r → stores_in s p t t.class ≡ Some region
     → is_refused (step s (Finish k) m).1 ≡ false → StoresFront s (step s (Finish k) m).0 (step s (Finish k) m).1 t region r
+
+-- The input got one of these records, and this step stored its front.
+abbrev pub StoresOne : List Taken → State → State → Reply → Transfer → Region → Type 0
+StoresOne taken s next answer t region = Any (λ (r : Taken). HasGot (is_early_at s t.device) t r × StoresFront s next answer t region r) taken
+
+-- the device has taken records, and the input got one of them
+abbrev pub StoresTaken : List ℕ → State → State → Reply → Transfer → Region → Type 0
+StoresTaken stream s next answer t region = (taken : List Taken) × HasTaken stream t.device taken s × StoresOne taken s next answer t region
+
+-- In a state of a run whose devices have these inputs, whatever a `done` of an input stores is the front of a record of its
+-- device's input.
+abbrev pub StoresFromInput : (ℕ → List ℕ) → State → Type 0
+StoresFromInput inputs s = (k p : ℕ) (m : Mark) (t : Transfer) (region : Region) → pending s k ≡ Some t → IsTrue (is_inward t.direction) → t.owner ≡ Some p → stores_in s p t t.class ≡ Some region
+    → is_refused (step s (Finish k) m).1 ≡ false → StoresTaken (inputs t.device) s (step s (Finish k) m).0 (step s (Finish k) m).1 t region
+
+abbrev pub RunsStoreFromInput : Type 0
+RunsStoreFromInput = (c : Config) (inputs : ℕ → List ℕ) (es : List Event) (rs : List Reply) (last : State) → Fits c → All (λ (e : Event). IsTrue (is_whole e)) es → Follows (boot c inputs) es rs last → StoresFromInput inputs last
+
+-- the byte is byte j of the payload of the record with which these bytes begin
+pub record IsPayloadByte (bytes : List ℕ) (j : ℕ) (byte : List ℕ) : Type 0 where
+  pub header : List ℕ
+  pub behind : List ℕ
+  pub whole : length header ≡ size_of_header header
+  pub split : bytes ≡ header ++ behind
+  pub within : j < len_in header
+  pub is : byte ≡ part j 1 behind
+
+-- what a receive step of device d landed at place x of region or orphan k is the byte, for that place of a weak input's
+-- buffer, of the record that comes behind those that were taken
+pub record LandedFromNext (stream : List ℕ) (taken : List Taken) (s : State) (d k x : ℕ) (byte : List ℕ) : Type 0 where
+  pub landed : Landed s d k x byte
+  pub left : List ℕ
+  pub next : Consists stream taken left
+  pub payload : IsPayloadByte left (x - landed.input.offset) byte
+
+-- So the bytes that land in the region of a weak input on an early device are those of one record too.
+abbrev pub LandedBytesAreNext : Type 0
+LandedBytesAreNext = (stream : List ℕ) (taken : List Taken) (s : State) (d n : ℕ) (m : Mark) (k x : ℕ) → IsOrderly s → HasTaken stream d taken s
+    → (bytes_of (step s (Recv d n) m).0 k x 1 ≡ bytes_of s k x 1) ⊎ LandedFromNext stream taken s d k x (bytes_of (step s (Recv d n) m).0 k x 1)

@@ -1,24 +1,24 @@
 -- What a receive step of a device takes of its stream.
-use Rattle.std.proofs.Common.{◌≡◌, ◌≢◌, ◌⊎◌, inl, inr, ℕ, zero, suc, ◌+◌, ◌-◌, ◌<◌, ◌≤◌, Bool, true, false, List, [], ◌∷◌, ◌++◌, length, take, drop, get_or, find, All, AllPairs, append-nil, append_assoc, refl, sym, ap, ap₂, subst, ◌∙◌, true≢false, eqb-true, eq-eqb, lt-ltb, leb-true, arith}
-use Rattle.std.specs.Prelude.{Option, Some, None, IfSome, IsTrue, ⊤, not, ◌&&◌, ◌==◌, nat_le, nat_lt, slice_index, option_and_then, if◌then◌else◌}
-use Rattle.std.proofs.lemmas.Bool.{cond_both, and_parts, not-true, not_from_false}
+use Rattle.std.proofs.Common.{◌≡◌, ◌≢◌, ◌⊎◌, inl, inr, ℕ, zero, suc, ◌+◌, ◌<◌, ◌≤◌, Bool, true, false, List, [], ◌∷◌, ◌++◌, length, take, drop, get_or, All, AllPairs, append-nil, append_assoc, refl, sym, ap, ap₂, subst, ◌∙◌, true≢false, eqb-true, eq-eqb, lt-ltb, arith}
+use Rattle.std.specs.Prelude.{Option, Some, None, IfSome, IsTrue, ⊤, ◌==◌, nat_le, nat_lt, slice_index, option_and_then}
+use Rattle.std.proofs.lemmas.Bool.{cond_both, and_parts, not_from_false}
 use Rattle.std.proofs.lemmas.Bool.Decides.{nat_tests}
 use Rattle.std.proofs.lemmas.List.{length-append, length-take, take-append-drop}
 use Rattle.std.proofs.lemmas.List.Elements.{All-push, All-weaker}
 use Rattle.std.proofs.lemmas.List.Quantifiers.{all_pairs_push}
 use Rattle.genie_base.specs.Configs.{most}
-use Rattle.genie_base.specs.Headers.{header_taken, payload_taken, size_of_header, is_whole_header, is_valid_header, is_format, port_in, len_in, flow_in}
+use Rattle.genie_base.specs.Headers.{header_taken, size_of_header, is_whole_header, is_valid_header, is_format, port_in, len_in, flow_in}
 use Rattle.genie_base.specs.declared.config.Kind.{Kind}
 use Rattle.genie_base.specs.declared.reply.Reply.TheVariants as reply
 use Rattle.genie_model.specs.declared.fate.Fate.{Fate}
 use Rattle.genie_model.specs.declared.fate.Fate.TheVariants.{Matched, Skipped, Gathering}
 use Rattle.genie_model.specs.declared.phase.Phase.TheVariants.{Moving}
 use Rattle.genie_model.specs.State.{State, Transfer, Device, Datagram}
-use Rattle.genie_model.specs.Tables.{change, entry}
-use Rattle.genie_model.specs.Pending.{is_inward, is_early, is_early_at, early_device, is_moving, is_numbered, awaits, pending, first_posted}
+use Rattle.genie_model.specs.Tables.{entry}
+use Rattle.genie_model.specs.Pending.{is_inward, is_early, is_early_at, early_device, is_numbered, awaits, pending, first_posted}
 use Rattle.genie_model.specs.Space.{Outcome}
 use Rattle.genie_model.specs.Sending.{change_device}
-use Rattle.genie_model.specs.Receiving.{receiving, set_device, is_busy, with_phase, with_datagram, gathered, after_receiving, change_transfer, deliver, complete, landing, landed, land_in, land, kept, after_bytes, go_on, take_payload, datagram, skipped, match_header, begin_datagram, read_header, take_header, receive_record, receive, recv}
+use Rattle.genie_model.specs.Receiving.{receiving, set_device, is_busy, with_phase, with_datagram, gathered, after_receiving, change_transfer, deliver, complete, landing, landed, land_in, land, kept, after_bytes, go_on, take_payload, datagram, match_header, begin_datagram, read_header, take_header, receive_record, receive, recv}
 use Rattle.genie_model.specs.Lemmas.ReceiveSteps.{choice}
 use Rattle.genie_model.specs.Lemmas.Lists.{entry_set, entry_same, has_at, all_has, find_has, none_found, none_has}
 use Rattle.genie_model.specs.Lemmas.PendingCalls.{KeepsCall, change_remain, remain_order}
@@ -26,9 +26,9 @@ use Rattle.genie_orderly.specs.Lemmas.ChangedTransfers.{all_numbered}
 use Rattle.genie_orderly.specs.Lemmas.Receivers.{received_input}
 use Rattle.genie_model.specs.Lemmas.SendQueues.{same_number}
 use Rattle.genie_orderly.specs.Orderly.{IsInput, GoesToInput, IsUnderWay, SuitsDevice, IsOrderly, matched_to, receives_for, may_become}
-use Rattle.genie_laws.specs.Streams.{Taken, IsHeader, Begins, Consists, HasCome, HasOfNext, Reads, WentElsewhere, IsServed, WentApart, HasTaken}
+use Rattle.genie_laws.specs.Streams.{Taken, IsHeader, Consists, HasCome, HasOfNext, Reads, WentElsewhere, IsServed, WentApart, HasTaken}
 use Rattle.genie_laws.proofs.Streams.Records.{whole_length, Ended, ended, consists_more, come_on}
-use Rattle.genie_laws.proofs.Streams.Walks.{IsKnown, IsOne, One, none_some, same_some, moving_has, frame_one, past_one, begin_one, begin_beside, land_one, land_beside, end_one, end_beside, deliver_one, IsFirst, first_one}
+use Rattle.genie_laws.proofs.Streams.Walks.{IsKnown, One, none_some, same_some, moving_has, frame_one, past_one, begin_one, begin_beside, land_one, land_beside, end_one, end_beside, deliver_one, first_one}
 
 abbrev Rises : List Transfer → Type 0
 Rises ts = AllPairs (λ (t u : Transfer). t.number < u.number) ts
