@@ -1,9 +1,11 @@
 //! What a kernel is: its tables, the flat state that it stands for, and what is true of every kernel.
 #![tactic(auto)]
 
+mod asked;
 pub mod kernel;
 pub mod laws;
 pub mod search;
+pub mod tables;
 pub mod transfer;
 pub mod transfers;
 

@@ -1,10 +1,11 @@
 //! A pending transfer.
 ghost use Rattle.std.specs.Prelude.{◌≡◌};
 ghost use Rattle.genie_model.specs.Pending.{is_inward, is_queued, is_moving};
-ghost use Rattle.genie_kernel.specs.Calls.{has_number, is_named, is_weak_input_into, waits_for, receives_from};
+ghost use Rattle.genie_kernel.specs.Calls.{has_number, is_named, is_weak_input_into, waits_for, receives_from, begins_at, is_copy_input};
+ghost use Rattle.genie_base.specs.Transfers.{class_of};
 ghost use Rattle.genie_kernel.specs.Searches.{names};
 
-use genie_base::{Direction, Note, RegionId, Semantics, TransferId};
+use genie_base::{Class, Direction, Note, RegionId, Semantics, TransferId};
 use genie_model::Phase;
 use genie_plan::{InPlan, OutPlan};
 
@@ -51,6 +52,15 @@ fn is_inward(direction: Direction) -> bool
     matches!(direction, Direction::Inward)
 }
 
+fn is_copy_input(semantics: Semantics, direction: Direction) -> bool
+    ensures { result ≡ is_copy_input (class_of semantics) direction }
+{
+    match (semantics.class(), direction) {
+        (Class::Copy, Direction::Inward) => true,
+        _ => false,
+    }
+}
+
 fn is_queued(phase: Phase) -> bool
     ensures { result ≡ is_queued phase }
 {
@@ -79,6 +89,17 @@ impl Transfer {
         ensures { result ≡ has_number id self.now }
     {
         self.id.0 == id
+    }
+
+    /// The address of a copy input, or the place in its region: from there on its pages are counted.
+    pub fn begins_at(&self) -> u32
+        ensures { result ≡ begins_at self.now }
+    {
+        if is_copy_input(self.sem, self.dir) {
+            self.addr
+        } else {
+            self.offset
+        }
     }
 
     /// Whether it is an output of this device that isn't wholly sent.
