@@ -11,5 +11,5 @@ pub mod transfers;
 
 pub use crate::kernel::Kernel;
 pub use crate::search::Search;
-pub use crate::transfer::{Loans, Transfer};
+pub use crate::transfer::{Change, Loans, Transfer};
 pub use crate::transfers::{MOST_PENDING, Transfers};

@@ -4,6 +4,7 @@ ghost use Rattle.genie_model.specs.Pending.{is_inward, is_queued, is_moving};
 ghost use Rattle.genie_kernel.specs.Calls.{has_number, is_named, is_weak_input_into, waits_for, receives_from, begins_at, is_copy_input};
 ghost use Rattle.genie_base.specs.Transfers.{class_of};
 ghost use Rattle.genie_kernel.specs.Searches.{names};
+ghost use Rattle.genie_kernel.specs.Changes.{changed_by};
 
 use genie_base::{Class, Direction, Note, RegionId, Semantics, TransferId};
 use genie_model::Phase;
@@ -44,6 +45,47 @@ pub struct Transfer {
     /// How many bytes are stored of an input.
     pub stored: u32,
     pub note: Note,
+}
+
+/// What an event changes of a pending transfer.
+#[derive(Clone, Copy, Debug, PartialEq, Eq)]
+pub enum Change {
+    /// How far it has come.
+    Progress {
+        phase: Phase,
+        buffer: Option<u32>,
+        stored: u32,
+        note: Note,
+    },
+    /// Its process is gone. A weak transfer still names its region, or what is left of it.
+    Ownerless {
+        region: Option<RegionId>,
+    },
+}
+
+impl Change {
+    /// Changes a transfer.
+    pub fn apply(self, transfer: &mut Transfer)
+        ensures { transfer.new ≡ changed_by self transfer.old }
+    {
+        match self {
+            Change::Progress {
+                phase,
+                buffer,
+                stored,
+                note,
+            } => {
+                transfer.phase = phase;
+                transfer.buffer = buffer;
+                transfer.stored = stored;
+                transfer.note = note;
+            }
+            Change::Ownerless { region } => {
+                transfer.owner = None;
+                transfer.region = region;
+            }
+        }
+    }
 }
 
 fn is_inward(direction: Direction) -> bool

@@ -1,10 +1,10 @@
 -- The first element that passes a test.
-use Rattle.std.proofs.Common.{◌≡◌, ℕ, ◌<◌, ◌≤◌, ◌+◌, zero, suc, Bool, true, false, List, [], ◌∷◌, refl, ap, subst, arith, ◌∙◌, ⊎_elim, map, length, get_or}
-use Rattle.std.specs.Prelude.{Some, None, find, slice_get}
+use Rattle.std.proofs.Common.{◌≡◌, ℕ, ◌<◌, ◌≤◌, ◌+◌, zero, suc, Bool, true, false, List, [], ◌∷◌, refl, sym, ap, subst, arith, ◌∙◌, ⊎_elim, map, set, length, get_or}
+use Rattle.std.specs.Prelude.{Some, None, find, slice_get, if◌then◌else◌}
 use Rattle.std.specs.List.{list_any, remove}
 use Rattle.std.proofs.lemmas.Bool.{cases_lt}
 use Rattle.genie_base.specs.Lemmas.Searches.{find_first}
-use Rattle.genie_model.specs.Tables.{without}
+use Rattle.genie_model.specs.Tables.{without, change}
 use Rattle.genie_model.specs.Lemmas.Lists.{Has, has_at, has_any}
 use Rattle.genie_kernel.specs.Searches.{IsFirst}
 use Rattle.genie_kernel.specs.Lemmas.Beside.{removed_at}
@@ -50,3 +50,12 @@ none_more p xs i x before e h j d l = ⊎_elim
     (λ (low : j < i). before j d low)
     (λ high. let is : j ≡ i = omega (arith, l, high) in ap (λ n. p (get_or xs n d)) is ∙ ap p ((got_at xs i x e).1 d) ∙ h)
     (cases_lt j i)
+
+-- the list with the first one changed
+pub first_changed : {X : Type 0} (p : X → Bool) (f : X → X) (xs : List X) (i : ℕ) (d : X) → IsFirst p xs i → set xs i (f (get_or xs i d)) ≡ change p f xs
+first_changed p f [] i d h = let l = h.there in absurd (omega (arith, l))
+first_changed p f (x ∷ xs) zero d h = sym (ap (λ b. if b then f x ∷ xs else x ∷ change p f xs) (h.passing d))
+first_changed p f (x ∷ xs) (suc i) d h =
+    let l = h.there in
+    let later = first_changed p f xs i d (record { there = omega (arith, l); passing = h.passing; before = λ j e m. h.before (suc j) e (omega arith) }) in
+    ap (λ ys. x ∷ ys) later ∙ sym (ap (λ b. if b then f x ∷ xs else x ∷ change p f xs) (h.before 0 d (omega arith)))
