@@ -13,3 +13,5 @@ pub mod Fewer
 pub mod Holding
 pub mod Planning
 pub mod Matching
+pub mod Working
+pub mod Receiving

@@ -3,7 +3,7 @@ use Rattle.std.proofs.Common.{◌≡◌, ℕ, ◌+◌, ◌<◌, zero, suc, Bool,
 use Rattle.std.specs.Prelude.{Option, Some, None, find, All, IfSome, ◌||◌}
 use Rattle.std.specs.List.{list_any}
 use Rattle.genie_model.specs.Lemmas.Lists.{Has}
-use Rattle.genie_model.specs.Tables.{without}
+use Rattle.genie_model.specs.Tables.{change, without}
 
 module _ {X : Type 0} (q : X → Bool) (t : X) where
   pub found_before : (xs : List X) (x : X) → find q xs ≡ Some x → find q (xs ++ t ∷ []) ≡ Some x
@@ -33,9 +33,16 @@ all_more P t [] a p (suc k) d l = absurd (omega (arith, l))
 all_more P t (x ∷ xs) a p zero d l = a zero x (omega arith)
 all_more P t (x ∷ xs) a p (suc k) d l = all_more P t xs (λ i e n. a (suc i) e (omega (arith, n))) p k d (omega (arith, l))
 
-all_cons : {X : Type 0} (P : X → Type 0) (x : X) (xs : List X) → P x → All P xs → All P (x ∷ xs)
+pub all_cons : {X : Type 0} (P : X → Type 0) (x : X) (xs : List X) → P x → All P xs → All P (x ∷ xs)
 all_cons P x xs h a zero d l = h
 all_cons P x xs h a (suc k) d l = a k d (omega (arith, l))
+
+-- one element changed, of which it is so whatever it was
+pub all_changed : {X : Type 0} (P : X → Type 0) (p : X → Bool) (g : X → X) → ((x : X) → P (g x)) → (xs : List X) → All P xs → All P (change p g xs)
+all_changed P p g here [] a = a
+all_changed P p g here (x ∷ xs) a =
+    let later : All P xs = λ k d l. a (suc k) d (omega (arith, l)) in
+    elim (p x) as (λ b. All P (cond b (g x ∷ xs) (x ∷ change p g xs))) [ true ↦ all_cons P (g x) xs (here x) later | false ↦ all_cons P x (change p g xs) (a zero x (omega arith)) (all_changed P p g here xs later) ]
 
 pub all_less : {X : Type 0} (P : X → Type 0) (p : X → Bool) (xs : List X) → All P xs → All P (without p xs)
 all_less P p [] a = a

@@ -22,7 +22,7 @@ use Rattle.genie_kernel.specs.Lemmas.Staying.{at_least}
 use Rattle.genie_changes.specs.Pending.{GivesUpBuffer}
 use Rattle.genie_changes.proofs.Lists.{all_less, all_more, found_same, if_some_map, map_more}
 
-abbrev IsUnstored : Transfer → Type 0
+abbrev pub IsUnstored : Transfer → Type 0
 IsUnstored t = is_posted_call t ≡ true → t.stored ≡ 0
 
 pub posted_less : (n : ℕ) (posted : List Input) (ts : List Transfer) → AllPairs (λ (x y : Transfer). x.id.0 < y.id.0) ts → ArePosted posted ts → ArePosted (demux.without n posted) (without (has_number n) ts)
@@ -81,20 +81,20 @@ receiving_less devices p t ts found other h = receives_same devices ts (without 
 pub receiving_more : (devices : List (Option DeviceView)) (t : Transfer) (ts : List Transfer) → is_moving t.phase ≡ false → AreReceiving devices ts → AreReceiving devices (ts ++ t ∷ [])
 receiving_more devices t ts other h = receives_same devices ts (ts ++ t ∷ []) (λ d. found_same (receives_from d) t ts (ap (λ b. b && (t.dev == d)) other)) h
 
-abbrev HasBufferIfArrived : List (Option DeviceView) → Transfer → Type 0
+abbrev pub HasBufferIfArrived : List (Option DeviceView) → Transfer → Type 0
 HasBufferIfArrived devices t = is_some t.buffer ≡ (has_arrived t.dev t && not (is_early_device (entry devices t.dev)))
 
-abbrev IsInBuffer : List (Option DeviceView) → List (Option PoolState) → Transfer → Type 0
+abbrev pub IsInBuffer : List (Option DeviceView) → List (Option PoolState) → Transfer → Type 0
 IsInBuffer devices pools t = IfSome t.buffer (λ b. t.stored ≤ room_in (entry devices t.dev) (entry pools t.dev) b)
 
-abbrev one_if : Bool → ℕ
+abbrev pub one_if : Bool → ℕ
 one_if b = if b then 1 else 0
 
 at_most_one : (b : Bool) → one_if b ≤ 1
 at_most_one true = omega arith
 at_most_one false = omega arith
 
-some_one : (b : Bool) → 0 < one_if b → b ≡ true
+pub some_one : (b : Bool) → 0 < one_if b → b ≡ true
 some_one true l = refl
 some_one false l = absurd (omega (arith, l))
 
@@ -133,7 +133,7 @@ module _ (p : Transfer → Bool) (t : Transfer) (ts : List Transfer) (old new : 
     filling = gives.filling;
   }
 
-no_buffer : (t : Transfer) (d b : ℕ) → t.buffer ≡ None → has_buffer d b t ≡ false
+pub no_buffer : (t : Transfer) (d b : ℕ) → t.buffer ≡ None → has_buffer d b t ≡ false
 no_buffer t d b e = ap (λ o. (t.dev == d) && is_just o b) e ∙ (elim (t.dev == d) as (λ c. (c && false) ≡ false) [ true ↦ refl | false ↦ refl ])
 
 pub arrived_beside_less : (devices : List (Option DeviceView)) (pools : List (Option PoolState)) (p : Transfer → Bool) (t : Transfer) (ts : List Transfer) → find p ts ≡ Some t → t.buffer ≡ None → HaveArrived devices pools ts → HaveArrived devices pools (without p ts)

@@ -5,3 +5,4 @@ pub mod Lent
 pub mod Owned
 pub mod Pages
 pub mod Pending
+pub mod Working
