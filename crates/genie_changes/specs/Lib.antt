@@ -4,3 +4,5 @@ pub mod States
 pub mod Lent
 pub mod Owned
 pub mod Pages
+pub mod Pending
+pub mod Working

@@ -4,3 +4,4 @@
 
 pub mod parts;
 pub mod states;
+pub mod work;
