@@ -1,6 +1,6 @@
 -- What every kernel has room for, and what calls leave of it that keep the sizes, or loans.
 use Rattle.std.proofs.Common.{◌≡◌, ℕ, ◌≤◌, ◌+◌, suc, not, List, [], ◌∷◌, refl, sym, arith, ap, length, get_or, ◌∙◌, subst, inl, inr}
-use Rattle.std.specs.Prelude.{◌&&◌, ◌==◌, count_by, Option, if◌then◌else◌}
+use Rattle.std.specs.Prelude.{◌&&◌, ◌==◌, count_by, if◌then◌else◌}
 use Rattle.std.proofs.lemmas.Bool.{cases_lt, eq-eqb}
 use Rattle.genie_base.specs.Lemmas.Places.{num}
 use Rattle.genie_frame.specs.declared.frame.Owner.{Owner}
@@ -11,23 +11,22 @@ use Rattle.genie_object.specs.declared.memory.Memory.{Memory}
 use Rattle.genie_object.specs.declared.objects.Entry.{Entry}
 use Rattle.genie_object.specs.Lemmas.Lookup.{in_range}
 use Rattle.genie_object.specs.Objects.{is_absent, object_at}
-use Rattle.genie_object.specs.Pages.{is_there}
-use Rattle.genie_object.specs.Sound.{IsSound, FitsHidden}
-use Rattle.genie_object.specs.Touching.{KeepsLoans, system_owner}
+use Rattle.genie_object.specs.Touching.{system_owner}
 use Rattle.genie_plan.specs.Plans.{times}
 use Rattle.genie_plan.specs.Lemmas.Landings.{times_some}
 use Rattle.genie_region.specs.declared.region.Region.{Region}
-use Rattle.genie_hiding.specs.declared.hidden.Hidden.{Hidden}
-use Rattle.genie_hiding.specs.Hidden.{objects_of}
-use Rattle.genie_hiding.specs.Rooms.{available, is_available, count_both}
+use Rattle.genie_hiding.specs.Rooms.{is_available, count_both}
 use Rattle.genie_model.specs.Regions.{committed}
-use Rattle.genie_kernel.specs.declared.kernel.Kernel.{Kernel}
 use Rattle.genie_kernel.specs.Backed.{AreBacked, all_regions}
 use Rattle.genie_kernel.specs.Planned.{AreItsOwn}
 use Rattle.genie_kernel.specs.View.{outline}
-use Rattle.genie_kernel.specs.Good.{IsGood}
-use Rattle.genie_room.specs.Places.{HasPlaces, KeepsSizes, is_pageless, pages_of}
+use Rattle.genie_room.specs.Places.{KeepsSizes, is_pageless, PlacesFit, PlacesAreKept, PlacesSuffice, OwnFramesSuffice}
+use Rattle.genie_room.specs.Frames.{AvailableIsKept}
+use Rattle.genie_room.specs.Rooms.{RoomIsKept}
+use Rattle.genie_room.specs.Bounds.{AreLow}
+use Rattle.genie_room.specs.Lemmas.Keeping.{sizes_kept}
 use Rattle.genie_room.specs.Lemmas.Totals.{total, total_more, total_plus, total_above, total_sums, sum_places, sum_all, sum_ones, count_split}
+use Rattle.genie_room.proofs.Bounds.{counts_low}
 use Rattle.genie_room.proofs.Named.{owned_committed}
 use Rattle.genie_room.proofs.Pages.{places_owned, pages_owned}
 
@@ -45,7 +44,7 @@ pageless owners =
     let each = total_more (λ f. num (is_free (get_or owners f Free)) + num (is_system (get_or owners f Free))) (λ f. num (is_pageless (get_or owners f Free))) n (λ f l. free_pageless (get_or owners f Free)) in
     omega (arith, each, total_plus (λ f. num (is_free (get_or owners f Free))) (λ f. num (is_system (get_or owners f Free))) n, sum_places (λ o. num (is_free o)) Free owners, sum_places (λ o. num (is_system o)) Free owners, sum_places (λ o. num (is_pageless o)) Free owners)
 
-pub places_fit : (m : Memory) (processes : List (Option (List Region))) (hidden : List Hidden) → IsSound m → FitsHidden m (objects_of hidden) → AreBacked m.objects (all_regions processes hidden) → pages_of processes ≤ length m.slots → m.pages.most ≡ length m.frames.owners + length m.slots → HasPlaces m (objects_of hidden)
+pub places_fit : PlacesFit
 places_fit m processes hidden sound fits backed slots most =
     let pages = pages_owned m processes hidden sound fits backed in
     record {
@@ -67,13 +66,13 @@ backed_kept old new regions keeps backed = record {
   one = λ o. backed.one o ∙ ap (λ b. if b then 0 else 1) (sym (absent_same (object_at new.objects o) (object_at old.objects o) (keeps.entries o)));
 }
 
-pub places_kept : (k : Kernel) (m : Memory) → IsGood k → KeepsSizes k.memory m → IsSound m → FitsHidden m (objects_of k.hidden) → HasPlaces m (objects_of k.hidden)
+pub places_kept : PlacesAreKept
 places_kept k m good keeps sound fits =
     let bound : committed (outline k) ≤ k.config.slots = good.orderly.committed in
     let backed = backed_kept k.memory m (all_regions k.spaces.processes k.hidden) keeps good.backed in
     places_fit m k.spaces.processes k.hidden sound fits backed (omega (arith, bound, owned_committed k, good.sized.slots, keeps.slots)) (omega (arith, good.sized.frames, good.sized.slots, good.sized.pages, keeps.number, keeps.slots, keeps.most))
 
-pub places_suffice : (k : Kernel) → IsGood k → HasPlaces k.memory (objects_of k.hidden)
+pub places_suffice : PlacesSuffice
 places_suffice k good = places_kept k k.memory good (record { entries = λ o. refl; number = refl; slots = refl; most = refl }) good.sound good.cached
 
 -- each frame of a transfer's own is one of the system's
@@ -95,7 +94,7 @@ own_frames owners number frames its =
     ]) in
     omega (arith, each, once, sum_ones frames, total_sums (λ f g. num (g == f)) n frames, sum_places (λ o. num (is_system o)) Free owners)
 
-pub own_suffice : (m : Memory) (hidden : List ℕ) (number : ℕ) (frames : List ℕ) → HasPlaces m hidden → AreItsOwn m.frames.owners number frames → count_by is_there m.pages.pages + count_by is_free m.frames.owners + length frames ≤ m.pages.most
+pub own_suffice : OwnFramesSuffice
 own_suffice m hidden number frames has its = omega (arith, has.pages, pageless m.frames.owners, own_frames m.frames.owners number frames its)
 
 -- a frame can be had just where it is no system frame and isn't lent
@@ -125,7 +124,14 @@ both_same (o ∷ os) [] cs l e = absurd (omega arith)
 both_same (o ∷ os) (p ∷ ps) [] l e = refl
 both_same (o ∷ os) (p ∷ ps) (c ∷ cs) l e = let here = ap num (e 0) in omega (arith, here, both_same os ps cs (omega arith) (λ f. e (suc f)))
 
-pub available_kept : (old new : Memory) → IsSound old → IsSound new → KeepsLoans old new → new.frames.counts ≡ old.frames.counts → available new.frames ≡ available old.frames
+pub available_kept : AvailableIsKept
 available_kept old new before after keeps same =
     let agree : (f : ℕ) → Agree (owner_at new.frames f) (get_or old.frames.counts f no_counts) = λ f. subst (λ cs. Agree (owner_at new.frames f) (get_or cs f no_counts)) same (after.lent f) in
     ap (count_both is_available new.frames.owners) same ∙ both_same new.frames.owners old.frames.owners old.frames.counts keeps.number (λ f. available_same (owner_at new.frames f) (owner_at old.frames f) (get_or old.frames.counts f no_counts) (agree f) (before.lent f) (keeps.systems f))
+
+pub room_kept : RoomIsKept
+room_kept k m good sound fits keeps same = record {
+  places = places_kept k m good (sizes_kept k.memory m keeps) sound fits;
+  frames = available_kept k.memory m good.sound sound keeps same;
+  counts = λ f. subst (λ cs. AreLow (get_or cs f no_counts)) (sym same) (counts_low k f good);
+}

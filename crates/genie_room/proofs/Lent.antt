@@ -41,7 +41,7 @@ loans_times f (Outward p) = omega (arith, sum_by-map (λ (l : kind.Loan). num (l
 loans_times f (Inward p) = omega (arith, sum_by-map (λ (l : kind.Loan). num (l.frame == f)) input_loan p.loans.items, sum_by-map (λ g. num (g == f)) (λ (l : InLoan). l.frame.0) p.loans.items)
 
 -- each loan is of one kind
-kinds_lent : (f : ℕ) (ts : List Transfer) → sum_by (loans_on kind.Strong f) ts + sum_by (loans_on kind.Weak f) ts + sum_by (loans_on kind.Input f) ts ≡ sum_by (lent_to f) ts
+pub kinds_lent : (f : ℕ) (ts : List Transfer) → sum_by (loans_on kind.Strong f) ts + sum_by (loans_on kind.Weak f) ts + sum_by (loans_on kind.Input f) ts ≡ sum_by (lent_to f) ts
 kinds_lent f [] = refl
 kinds_lent f (t ∷ ts) = omega (arith, kinds_sum (loans_of t.loans) f, loans_times f t.loans, kinds_lent f ts, sum_by-cons (loans_on kind.Strong f) t ts, sum_by-cons (loans_on kind.Weak f) t ts, sum_by-cons (loans_on kind.Input f) t ts, sum_by-cons (lent_to f) t ts)
 

@@ -1,7 +1,9 @@
 pub mod Lent
 pub mod Wired
 pub mod Available
+pub mod Bounds
 pub mod Named
 pub mod Pages
 pub mod Objects
 pub mod Kept
+pub mod Queues

@@ -19,12 +19,10 @@ use Rattle.genie_space.specs.Translations.{IsBacked}
 use Rattle.genie_hiding.specs.declared.hidden.Hidden.{Hidden}
 use Rattle.genie_hiding.specs.Hidden.{times_hidden, is_hidden, objects_of, object_of}
 use Rattle.genie_hiding.specs.Lemmas.Searching.{hidden_by}
-use Rattle.genie_model.specs.Regions.{committed, region_pages}
-use Rattle.genie_kernel.specs.declared.kernel.Kernel.{Kernel}
+use Rattle.genie_model.specs.Regions.{region_pages}
 use Rattle.genie_kernel.specs.Backed.{AreBacked, all_regions, has_object, hidden_region}
 use Rattle.genie_kernel.specs.Regions.{owned_regions, regions_of, region_view, process_view, processes_view}
-use Rattle.genie_kernel.specs.View.{outline}
-use Rattle.genie_room.specs.Places.{pages_of}
+use Rattle.genie_room.specs.Places.{pages_of, PagesAreCommitted}
 use Rattle.genie_room.specs.Lemmas.Totals.{total, total_none, total_same, total_counts, total_sums, sum_all}
 
 -- how many entries of a region name the page
@@ -132,5 +130,5 @@ committed_sum s [] qs = refl
 committed_sum s (p ∷ ps) [] = omega (arith, committed_sum s ps [], first_pages p ps, region_sum s p [], sum_by-cons region_pages (process_view s p []) (processes_view s ps []))
 committed_sum s (p ∷ ps) (q ∷ qs) = omega (arith, committed_sum s ps qs, first_pages p ps, region_sum s p q, sum_by-cons region_pages (process_view s p q) (processes_view s ps qs))
 
-pub owned_committed : (k : Kernel) → pages_of k.spaces.processes ≡ committed (outline k)
+pub owned_committed : PagesAreCommitted
 owned_committed k = sym (committed_sum (λ o i. replicate k.config.page 0) k.spaces.processes k.queues)

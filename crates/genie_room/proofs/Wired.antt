@@ -30,7 +30,7 @@ use Rattle.genie_kernel.specs.Sizes.{is_pooled, IsEquipped, IsPoolOf}
 use Rattle.genie_kernel.specs.Transfers.{transfer_view}
 use Rattle.genie_kernel.specs.View.{outline}
 use Rattle.genie_kernel.specs.Good.{IsGood}
-use Rattle.genie_room.specs.Frames.{loan_count, loans_in, need, pooled}
+use Rattle.genie_room.specs.Frames.{loan_count, need, pooled, LoansAreWired}
 use Rattle.genie_room.specs.Lemmas.Totals.{sum_all, sum_beneath}
 
 out_long : (page : ℕ) (t : Transfer) (loans : Loans) → LendsOut page t loans → length (frames_of loans) ≤ span page (begins_at t) t.len
@@ -107,5 +107,5 @@ module _ (k : Kernel) (good : IsGood k) where
       let below = sum_beneath pool_size (λ c. device_pool (option_map device_config c)) None None k.pools k.config.devices (omega (arith, good.equipped.pool_places, places, length-map k.config.devices (option_map device_config))) (λ d. pool_small k.config.page (entry k.config.devices d) (entry k.devices d) (entry k.pools d) (good.equipped.each d)) in
       omega (arith, below, sum_by-map device_pool (option_map device_config) k.config.devices)
 
-pub loans_wired : (k : Kernel) → IsGood k → loans_in k.transfers ≤ wired (outline k)
+pub loans_wired : LoansAreWired
 loans_wired k good = omega (arith, wired_need k good, sum_all loan_count (need k.config.page) k.transfers (lent_need k good))

@@ -1,9 +1,11 @@
 -- How many frames are lent, and how many can be had.
-use Rattle.std.specs.Prelude.{◌≡◌, ℕ, ◌+◌, ◌≤◌, Bool, true, false, List, length, sum_by, count_by, All, Option, None}
+use Rattle.std.specs.Prelude.{◌≡◌, ℕ, ◌+◌, ◌*◌, ◌≤◌, Bool, true, false, IsTrue, List, length, sum_by, count_by, All, Option, None}
 use Rattle.genie_base.specs.Configs.{config_of, pool_of}
 use Rattle.genie_base.specs.Counts.{span, cost}
 use Rattle.genie_base.specs.Transfers.{class_of}
+use Rattle.genie_base.specs.declared.event.Event.{Event}
 use Rattle.genie_base.specs.declared.event.Event.TheVariants as event
+use Rattle.genie_base.specs.Events.{is_whole}
 use Rattle.genie_base.specs.declared.semantics.Class.TheVariants.{Copy}
 use Rattle.genie_base.specs.declared.semantics.Direction.TheVariants.{Inward, Outward}
 use Rattle.genie_base.specs.declared.semantics.Semantics.{Semantics}
@@ -14,8 +16,11 @@ use Rattle.genie_object.specs.Sound.{IsSound}
 use Rattle.genie_object.specs.Touching.{KeepsLoans}
 use Rattle.genie_hiding.specs.Rooms.{available}
 use Rattle.genie_model.specs.Inputs.{address_or_zero}
-use Rattle.genie_model.specs.Pending.{wired}
+use Rattle.genie_model.specs.Pending.{wired, cost_of, touched}
 use Rattle.genie_model.specs.Refusing.{frames_to_wire, refuse}
+use Rattle.genie_model.specs.State as flat
+use Rattle.genie_orderly.specs.Lemmas.AcceptedCalls.{OnCall}
+use Rattle.genie_orderly.specs.Lemmas.KeptCalls.{call_of}
 use Rattle.genie_kernel.specs.declared.kernel.Kernel.{Kernel}
 use Rattle.genie_kernel.specs.declared.transfer.Transfer.{Transfer}
 use Rattle.genie_kernel.specs.Calls.{begins_at}
@@ -66,11 +71,21 @@ FourAreAvailable = (k : Kernel) → IsGood k → 4 ≤ available k.memory.frames
 abbrev pub CostsAreAvailable : Type 0
 CostsAreAvailable = (k : Kernel) (frames : ℕ) → IsGood k → wired (outline k) + frames ≤ frames_to_wire (outline k) → frames + 4 ≤ available k.memory.frames
 
--- so an output that isn't refused can have all that it may need, and four
+-- the transfer of a call can have all that it may need, and four frames, and touches at most 65 pages
+pub record CanBegin (page frames : ℕ) (t : flat.Transfer) : Type 0 where
+  pub len : t.len ≤ 64 * page
+  pub pages : touched page t ≤ 65
+  pub cost : cost_of page t + 4 ≤ frames
+
+-- so it is with each call that isn't refused
+abbrev pub CallsCanBegin : Type 0
+CallsCanBegin = (k : Kernel) (e : Event) → IsGood k → IsTrue (is_whole e) → refuse (outline k) e ≡ None → OnCall (CanBegin k.config.page (available k.memory.frames)) (call_of (outline k) e)
+
+-- as the address of an output says it
 abbrev pub OutputsAreAvailable : Type 0
 OutputsAreAvailable = (k : Kernel) (p : ℕ) (sem : Semantics) (d port : ℕ) (flow : Option ℕ) (a n : ℕ) → IsGood k → refuse (outline k) (event.Output p sem d port flow a n) ≡ None → cost (class_of sem) Outward (span k.config.page a n) + 4 ≤ available k.memory.frames
 
--- and so can an input
+-- and that of an input
 abbrev pub InputsAreAvailable : Type 0
 InputsAreAvailable = (k : Kernel) (p : ℕ) (sem : Semantics) (d port : ℕ) (flow addr : Option ℕ) (n : ℕ) → IsGood k → refuse (outline k) (event.Input p sem d port flow addr n) ≡ None → cost (class_of sem) Inward (span k.config.page (address_or_zero addr) n) + 4 ≤ available k.memory.frames
 

@@ -1,3 +1,5 @@
 pub mod Frames
+pub mod Bounds
 pub mod Lemmas
 pub mod Places
+pub mod Rooms

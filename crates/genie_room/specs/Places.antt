@@ -1,5 +1,5 @@
--- How many slots, pages and objects there may still be.
-use Rattle.std.specs.Prelude.{◌≡◌, ℕ, ◌+◌, ◌≤◌, ◌<◌, Bool, not, List, length, sum_by, count_by, Option, None, slice_index_or}
+-- How many slots, pages and objects there may still be, and how many regions in a weak queue.
+use Rattle.std.specs.Prelude.{◌≡◌, ℕ, ◌+◌, ◌≤◌, ◌<◌, Bool, not, List, [], length, sum_by, count_by, Option, None, Some, slice_index_or}
 use Rattle.genie_frame.specs.declared.frame.Owner.{Owner}
 use Rattle.genie_frame.specs.FrameTable.{is_free, is_page}
 use Rattle.genie_object.specs.declared.memory.Memory.{Memory}
@@ -12,6 +12,8 @@ use Rattle.genie_hiding.specs.declared.hidden.Hidden.{Hidden}
 use Rattle.genie_hiding.specs.Hidden.{objects_of, is_of}
 use Rattle.genie_hiding.specs.Rooms.{visible_pages}
 use Rattle.genie_model.specs.Regions.{committed}
+use Rattle.genie_model.specs.Tables.{entry}
+use Rattle.genie_orderly.specs.Orderly.{is_out}
 use Rattle.genie_kernel.specs.declared.kernel.Kernel.{Kernel}
 use Rattle.genie_kernel.specs.Backed.{AreBacked, AreFew, all_regions}
 use Rattle.genie_kernel.specs.Planned.{AreItsOwn}
@@ -63,3 +65,7 @@ OwnFramesSuffice = (m : Memory) (hidden : List ℕ) (number : ℕ) (frames : Lis
 -- where a process has room for one more region, one more object can be there
 abbrev pub ObjectsSuffice : Type 0
 ObjectsSuffice = (objects : List (List Entry)) (processes : List (Option (List Region))) (hidden : List Hidden) → AreBacked objects (all_regions processes hidden) → AreFew processes hidden → length processes ≡ 16 → (pid : ℕ) → pid < 16 → length (regions_of (slice_index_or processes pid None)) + count_by (is_of pid) hidden < 32 → count_by (λ entries. not (is_absent entries)) objects < 512
+
+-- the weak queue of a process and its regions that aren't Out are at most 32, so there is room in the queue for each of them
+abbrev pub QueuesSuffice : Type 0
+QueuesSuffice = (k : Kernel) (p : ℕ) (regions : List Region) → IsGood k → entry k.spaces.processes p ≡ Some regions → length (slice_index_or k.queues p []) + count_by (λ (r : Region). not (is_out r.state)) regions ≤ 32

@@ -1,6 +1,8 @@
 //! Laws of the room that a good kernel has.
-ghost use Rattle.genie_room.specs.Frames.{PoolsAreFew, FramesAreLent, LoansAreWired, FourAreAvailable, CostsAreAvailable, OutputsAreAvailable, InputsAreAvailable, PendingAreAvailable, CopiesAreAvailable, AvailableIsKept};
-ghost use Rattle.genie_room.specs.Places.{PlacesFit, PagesAreCommitted, PlacesSuffice, PlacesAreKept, OwnFramesSuffice, ObjectsSuffice};
+ghost use Rattle.genie_room.specs.Frames.{PoolsAreFew, FramesAreLent, LoansAreWired, FourAreAvailable, CostsAreAvailable, CallsCanBegin, OutputsAreAvailable, InputsAreAvailable, PendingAreAvailable, CopiesAreAvailable, AvailableIsKept};
+ghost use Rattle.genie_room.specs.Bounds.{PlansAreShort, CountsAreLow};
+ghost use Rattle.genie_room.specs.Places.{PlacesFit, PagesAreCommitted, PlacesSuffice, PlacesAreKept, OwnFramesSuffice, ObjectsSuffice, QueuesSuffice};
+ghost use Rattle.genie_room.specs.Rooms.{RoomIsKept};
 
 /// Pools have at most the frames that they were given.
 pub fn pools_are_few()
@@ -30,7 +32,12 @@ pub fn costs_are_available()
     ensures { CostsAreAvailable }
 {}
 
-/// An output that isn't refused can have all frames that it may need.
+/// A call that isn't refused can have all frames that it may need, and touches at most 65 pages.
+pub fn calls_can_begin()
+    ensures { CallsCanBegin }
+{}
+
+/// An output that isn't refused can have all frames that it may need, by its address.
 pub fn outputs_are_available()
     ensures { OutputsAreAvailable }
 {}
@@ -53,6 +60,16 @@ pub fn copies_are_available()
 /// As many frames can be had after calls that keep loans, where no count has changed.
 pub fn available_is_kept()
     ensures { AvailableIsKept }
+{}
+
+/// A pending transfer has at most 65 loans.
+pub fn plans_are_short()
+    ensures { PlansAreShort }
+{}
+
+/// A frame has at most 4,096 loans, and at most 4,096 wires.
+pub fn counts_are_low()
+    ensures { CountsAreLow }
 {}
 
 /// Where the pages of regions fit the slots, there are slots for pages in frames, and pages for frames without one.
@@ -83,4 +100,15 @@ pub fn own_frames_suffice()
 /// Where a process has room for one more region, one more object can be there.
 pub fn objects_suffice()
     ensures { ObjectsSuffice }
+{}
+
+/// The weak queue of a process has room for each of its regions that isn't Out.
+pub fn queues_suffice()
+    ensures { QueuesSuffice }
+{}
+
+/// Calls that keep loans and change no count leave the room that there was: an event makes room once, at its start, and
+/// then takes frames.
+pub fn room_is_kept()
+    ensures { RoomIsKept }
 {}
