@@ -51,8 +51,8 @@ pub fn outputs_keep_integrity()
     laws::steps_stay_orderly();
 }
 
-/// No record is sent in part but that of the first output that waits: of the accepted outputs of a device the last ones
-/// wait, and the records of all others, the ready ones too, were sent whole.
+/// Of the accepted outputs of a device the last ones wait; the records of all others, the ready ones too, were sent whole,
+/// and then as many bytes as are moved of the first that waits.
 pub fn outputs_are_sent_whole()
     ensures { OutputsAreSentWhole }
 {
