@@ -1,5 +1,5 @@
 -- What devices take of their input: records, one after the other, each of which goes to at most one input call.
-use Rattle.std.specs.Prelude.{◌≡◌, ◌≢◌, ◌⊎◌, ℕ, ◌-◌, ◌<◌, Bool, true, false, not, ◌&&◌, nat_lt, IsTrue, List, [], ◌∷◌, ◌++◌, length, take, drop, slice_index, All, AllPairs, Option, None, Some, IfSome, ⊤}
+use Rattle.std.specs.Prelude.{◌≡◌, ◌≢◌, ◌⊎◌, ℕ, ◌-◌, ◌<◌, ◌≤◌, Bool, true, false, not, ◌&&◌, nat_lt, IsTrue, List, [], ◌∷◌, ◌++◌, length, take, drop, slice_index, All, AllPairs, Option, None, Some, IfSome, ⊤}
 use Rattle.std.specs.List.{Any}
 use Rattle.genie_base.specs.Bytes.{part}
 use Rattle.genie_base.specs.Configs.{Config, Fits}
@@ -114,9 +114,9 @@ pub record HasTaken (stream : List ℕ) (d : ℕ) (taken : List Taken) (s : Stat
   pub apart : AllPairs WentApart taken
   pub inputs : All (IsServed (is_early_at s d) taken header payload d) s.transfers
 
--- so it is in each state of a run, where the records that were taken stay, and each step may add some
+-- so it is in each state of a run, where the records that were taken stay, and each step adds at most one
 abbrev pub Takes : List ℕ → ℕ → List Taken → State → List Event → List Reply → Type 0
-Takes stream d taken s (e ∷ es) (r ∷ rs) = HasTaken stream d taken s × ((more : List Taken) × Takes stream d (taken ++ more) (step s e (mark_of r)).0 es rs)
+Takes stream d taken s (e ∷ es) (r ∷ rs) = HasTaken stream d taken s × ((more : List Taken) × (length more ≤ 1) × Takes stream d (taken ++ more) (step s e (mark_of r)).0 es rs)
 Takes stream d taken s es rs = HasTaken stream d taken s
 
 -- So each device takes the records of its input in their order, and a ready input has the front of one of them.
@@ -146,22 +146,17 @@ abbrev pub DoneStoresRecords : Type 0
 DoneStoresRecords = (s : State) (k p : ℕ) (m : Mark) (t : Transfer) (region : Region) (r : Taken) → IsOrderly s → pending s k ≡ Some t → IsTrue (is_inward t.direction) → t.owner ≡ Some p → HasGot (is_early_at s t.device) t r → stores_in s p t t.class ≡ Some region
     → is_refused (step s (Finish k) m).1 ≡ false → StoresFront s (step s (Finish k) m).0 (step s (Finish k) m).1 t region r
 
--- The input got one of these records, and this step stored its front.
+-- the input got one of these records, and this step stored its front
 abbrev pub StoresOne : List Taken → State → State → Reply → Transfer → Region → Type 0
 StoresOne taken s next answer t region = Any (λ (r : Taken). HasGot (is_early_at s t.device) t r × StoresFront s next answer t region r) taken
 
--- the device has taken records, and the input got one of them
-abbrev pub StoresTaken : List ℕ → State → State → Reply → Transfer → Region → Type 0
-StoresTaken stream s next answer t region = (taken : List Taken) × HasTaken stream t.device taken s × StoresOne taken s next answer t region
+-- whatever a `done` of an input stores in this state is the front of a record that its device has taken
+abbrev pub StoresTaken : State → Type 0
+StoresTaken s = (stream : List ℕ) (taken : List Taken) (k p : ℕ) (m : Mark) (t : Transfer) (region : Region) → HasTaken stream t.device taken s → pending s k ≡ Some t → IsTrue (is_inward t.direction) → t.owner ≡ Some p → stores_in s p t t.class ≡ Some region
+    → is_refused (step s (Finish k) m).1 ≡ false → StoresOne taken s (step s (Finish k) m).0 (step s (Finish k) m).1 t region
 
--- In a state of a run whose devices have these inputs, whatever a `done` of an input stores is the front of a record of its
--- device's input.
-abbrev pub StoresFromInput : (ℕ → List ℕ) → State → Type 0
-StoresFromInput inputs s = (k p : ℕ) (m : Mark) (t : Transfer) (region : Region) → pending s k ≡ Some t → IsTrue (is_inward t.direction) → t.owner ≡ Some p → stores_in s p t t.class ≡ Some region
-    → is_refused (step s (Finish k) m).1 ≡ false → StoresTaken (inputs t.device) s (step s (Finish k) m).0 (step s (Finish k) m).1 t region
-
-abbrev pub RunsStoreFromInput : Type 0
-RunsStoreFromInput = (c : Config) (inputs : ℕ → List ℕ) (es : List Event) (rs : List Reply) (last : State) → Fits c → All (λ (e : Event). IsTrue (is_whole e)) es → Follows (boot c inputs) es rs last → StoresFromInput inputs last
+abbrev pub DonesStoreTaken : Type 0
+DonesStoreTaken = (s : State) → IsOrderly s → StoresTaken s
 
 -- the byte is byte j of the payload of the record with which these bytes begin
 pub record IsPayloadByte (bytes : List ℕ) (j : ℕ) (byte : List ℕ) : Type 0 where
@@ -180,7 +175,11 @@ pub record LandedFromNext (stream : List ℕ) (taken : List Taken) (s : State) (
   pub next : Consists stream taken left
   pub payload : IsPayloadByte left (x - landed.input.offset) byte
 
+-- a receive step in this state stores no bytes in regions and orphans but those of the record that comes next
+abbrev pub LandsNext : State → Type 0
+LandsNext s = (stream : List ℕ) (taken : List Taken) (d n : ℕ) (m : Mark) (k x : ℕ) → HasTaken stream d taken s
+    → (bytes_of (step s (Recv d n) m).0 k x 1 ≡ bytes_of s k x 1) ⊎ LandedFromNext stream taken s d k x (bytes_of (step s (Recv d n) m).0 k x 1)
+
 -- So the bytes that land in the region of a weak input on an early device are those of one record too.
 abbrev pub LandedBytesAreNext : Type 0
-LandedBytesAreNext = (stream : List ℕ) (taken : List Taken) (s : State) (d n : ℕ) (m : Mark) (k x : ℕ) → IsOrderly s → HasTaken stream d taken s
-    → (bytes_of (step s (Recv d n) m).0 k x 1 ≡ bytes_of s k x 1) ⊎ LandedFromNext stream taken s d k x (bytes_of (step s (Recv d n) m).0 k x 1)
+LandedBytesAreNext = (s : State) → IsOrderly s → LandsNext s

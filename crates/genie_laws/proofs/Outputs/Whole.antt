@@ -23,7 +23,7 @@ use Rattle.genie_model.specs.Step.{step, Follows}
 use Rattle.genie_model.specs.Lemmas.SendQueues.{plain, queue, same_number}
 use Rattle.genie_orderly.specs.Orderly.{IsOrderly}
 use Rattle.genie_orderly.specs.Steps.{Stays, BootIsOrderly, RunsStayOrderly}
-use Rattle.genie_laws.specs.Integrity.{Accepted, accepted, outputs, states, HasPayload, ArePayloads, records, IsCallOf, IsAmong, OutputsAreSentWhole}
+use Rattle.genie_laws.specs.Integrity.{Accepted, accepted, outputs, states, HasPayload, ArePayloads, records, moved_of, IsCallOf, IsAmong, OutputsAreSentWhole}
 use Rattle.genie_laws.proofs.Outputs.ReceiveSteps.{Meets}
 use Rattle.genie_laws.proofs.Outputs.Records.{AreWaiting, begun, begun_more, begun_none, header_length, HasLength, sends_whole}
 use Rattle.genie_laws.proofs.Outputs.Turns.{Turn, still, called, stages, sends, ends, turn_waiting}
@@ -159,6 +159,11 @@ waiting_numbers d os ts are = of_numbers os (queue d ts) are ∙ queue_numbers t
     queue_numbers (t ∷ ts) = cond_both (waits_for d t) (plain t ∷ queue d ts) (queue d ts) (λ l. map (λ (t : Transfer). t.number) l ≡ map (λ (t : Transfer). t.number) (filter (waits_for d) (t ∷ ts)))
         (λ yes. rw yes (ap (λ l. t.number ∷ l) (queue_numbers ts))) (λ other. rw other (queue_numbers ts))
 
+-- what is sent of the first one that waits
+waiting_moved : (d : ℕ) (ts : List Transfer) → begun (queue d ts) ≡ moved_of (filter (waits_for d) ts)
+waiting_moved d [] = refl
+waiting_moved d (t ∷ ts) = cond_both (waits_for d t) (plain t ∷ queue d ts) (queue d ts) (λ l. begun l ≡ moved_of (filter (waits_for d) (t ∷ ts))) (λ waits. rw waits refl) (λ other. rw other (waiting_moved d ts))
+
 -- payloads of some and of others
 record Parted (over waiting : List Accepted) (payloads : List (List ℕ)) : Type 0 where
   first : List (List ℕ)
@@ -252,6 +257,7 @@ outputs_are_sent_whole boots stay follow c inputs es rs last d fits whole f =
       are_others = parts.are_others;
       begun = at.0;
       sent = at.1;
+      part = omega (arith, parts.count, count, ap length at.1, length-append (records h.over parts.first) at.0, waiting_moved d last.transfers);
       left = sends.left;
       front = at.2;
       ready = ready_over d h.over h.waiting last.transfers (follow c inputs es rs last fits whole f).transfers.order (waiting_numbers d h.waiting last.transfers h.are)

@@ -1,5 +1,5 @@
 -- What each event leaves of the records that a device has taken.
-use Rattle.std.proofs.Common.{◌≡◌, ◌≢◌, ⊎_elim, ℕ, ◌+◌, ◌<◌, ◌≤◌, Bool, true, false, List, [], ◌∷◌, ◌++◌, map, filter, get_or, All, append-nil, refl, sym, ap, subst, ◌∙◌, true≢false, ne_eqb, slice_set, arith}
+use Rattle.std.proofs.Common.{◌≡◌, ◌≢◌, ⊎_elim, ℕ, ◌+◌, ◌<◌, ◌≤◌, Bool, true, false, List, [], ◌∷◌, ◌++◌, map, filter, get_or, All, append-nil, refl, sym, ap, subst, ◌∙◌, true≢false, ne_eqb, slice_set, arith, length}
 use Rattle.std.specs.Prelude.{Option, Some, None, IfSome, IsTrue, ⊤, not, ◌==◌, if◌then◌else◌}
 use Rattle.std.proofs.lemmas.Bool.{cases_eq, cond_both, and_parts}
 use Rattle.std.proofs.lemmas.Bool.Decides.{nat_tests}
@@ -147,12 +147,12 @@ module _ (stream : List ℕ) (d : ℕ) (taken : List Taken) where
   after_cancel s k None h = h
   after_cancel s k (Some t) h = alike (without_transfer s k) _ (given_up_like (without_transfer s k) t.class (region_of (without_transfer s k) t)) (after_end s k h)
 
--- records that were taken stay, and some may come to them
+-- records that were taken stay, and one may come to them
 abbrev pub Goes : List ℕ → ℕ → List Taken → State → Type 0
-Goes stream d taken t = (more : List Taken) × HasTaken stream d (taken ++ more) t
+Goes stream d taken t = (more : List Taken) × (length more ≤ 1) × HasTaken stream d (taken ++ more) t
 
 pub still : (stream : List ℕ) (d : ℕ) (taken : List Taken) (t : State) → HasTaken stream d taken t → Goes stream d taken t
-still stream d taken t h = ([], subst (λ l. HasTaken stream d l t) (sym (append-nil taken)) h)
+still stream d taken t h = ([], omega arith, subst (λ l. HasTaken stream d l t) (sym (append-nil taken)) h)
 
 -- a receive step has a budget
 abbrev HasBudget : Event → Type 0
@@ -194,7 +194,7 @@ module _ (inputs : ℕ → List ℕ) (s : State) (o : IsOrderly s) (all : (x : �
 
   recv_goes : (dev n : ℕ) → 1 ≤ n → GoesTo (recv s dev n).0
   recv_goes dev n some = ⊎_elim
-      (λ (e : dev ≡ d). let r = recv_so s d (inputs d) (λ _. ⊤) taken o h (λ i c lt _. tt) n some in subst (λ i. GoesTo (recv s i n).0) (sym e) (r.more, r.has))
+      (λ (e : dev ≡ d). let r = recv_so s d (inputs d) (λ _. ⊤) taken o h (λ i c lt _. tt) n some in subst (λ i. GoesTo (recv s i n).0) (sym e) (r.more, r.few, r.has))
       (λ (other : dev ≢ d). still (inputs d) d taken (recv s dev n).0 (recv_other dev n other some))
       (cases_eq dev d)
 
@@ -222,7 +222,7 @@ module _ (inputs : ℕ → List ℕ) (s : State) (o : IsOrderly s) (all : (x : �
   performed e some = quiet (perform s e).0 refl
 
   accepted : (e : Event) → HasBudget e → GoesTo (accept s e).0
-  accepted e some = let r = performed e some in (r.0, alike (inputs d) d (taken ++ r.0) (perform s e).0 (tidy (perform s e).0) refl r.1)
+  accepted e some = let r = performed e some in (r.0, r.1, alike (inputs d) d (taken ++ r.0) (perform s e).0 (tidy (perform s e).0) refl r.2)
 
   -- one step
   pub step_goes : (e : Event) (m : Mark) → GoesTo (step s e m).0

@@ -112,4 +112,4 @@ by_device stream taken s d n m k x o has (Some v) is reads = ⊎_elim
     (cases_Bool v.is_bad)
 
 pub landed_bytes_are_next : LandedBytesAreNext
-landed_bytes_are_next stream taken s d n m k x o has = by_device stream taken s d n m k x o has (entry s.devices d) refl has.device
+landed_bytes_are_next s o stream taken d n m k x has = by_device stream taken s d n m k x o has (entry s.devices d) refl has.device

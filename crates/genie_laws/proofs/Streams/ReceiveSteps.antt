@@ -44,6 +44,7 @@ pub record Walk (s : State) (d : ℕ) (early : Bool) (Q : Transfer → Type 0) (
 -- what it leaves
 pub record Leaves (s : State) (d : ℕ) (stream : List ℕ) (Q : Transfer → Type 0) (taken : List Taken) (t : State) : Type 0 where
   pub more : List Taken
+  pub few : length more ≤ 1
   pub has : HasTaken stream d (taken ++ more) t
   pub next : t.next ≡ s.next
   pub other : All (λ (u : Transfer). u.device ≢ d → Q u) t.transfers
@@ -100,6 +101,7 @@ module _ (s : State) (d : ℕ) (stream : List ℕ) (early : Bool) (Q : Transfer 
     stay_so : (header payload : List ℕ) (aim : Option ℕ) (t : State) → Walks taken header payload aim t → IfSome (entry t.devices d) (Reads stream taken header payload) → is_early_at t d ≡ early → LeavesAt t
     stay_so header payload aim t w device soon = record {
       more = [];
+      few = omega arith;
       has = subst (λ l. HasTaken stream d l t) (sym (append-nil taken)) (walk_taken taken header payload aim t w calls apart device soon);
       next = w.next;
       other = λ i c lt. (w.each i c lt).other;
@@ -110,6 +112,7 @@ module _ (s : State) (d : ℕ) (stream : List ℕ) (early : Bool) (Q : Transfer 
     took_so : (r : Taken) (t : State) → Walks (taken ++ r ∷ []) [] [] None t → IfSome r.input (λ k. k < s.next) → ((k : ℕ) → r.input ≡ Some k → WentElsewhere taken k) → IfSome (entry t.devices d) (Reads stream (taken ++ r ∷ []) [] []) → is_early_at t d ≡ early → LeavesAt t
     took_so r t w call free device soon = record {
       more = r ∷ [];
+      few = omega arith;
       has = walk_taken (taken ++ r ∷ []) [] [] None t w (All-push (λ (q : Taken). IfSome q.input (λ k. k < s.next)) taken r calls call) (all_pairs_push WentApart taken r apart (λ i c lt k a b. free k b i c lt a)) device soon;
       next = w.next;
       other = λ i c lt. (w.each i c lt).other;
@@ -336,7 +339,7 @@ module _ (s : State) (d : ℕ) (stream : List ℕ) (Q : Transfer → Type 0) (ta
   }
 
   same_so : Leaves s d stream Q taken s
-  same_so = record { more = []; has = subst (λ l. HasTaken stream d l s) (sym (append-nil taken)) has; next = refl; other = other; others = λ e n. refl }
+  same_so = record { more = []; few = omega arith; has = subst (λ l. HasTaken stream d l s) (sym (append-nil taken)) has; next = refl; other = other; others = λ e n. refl }
 
   record_so : (n : ℕ) (v : Device) → entry s.devices d ≡ Some v → 1 ≤ n → v.is_bad ≡ false → (present : Option Datagram) → v.present ≡ present → Reads stream taken has.header has.payload v → IfSome present (IsUnderWay s d) → IfSome present (SuitsDevice s.config.page v) → Leaves s d stream Q taken (receive_record s d n v present).0
   record_so n v is some fine None e reads under suits =
