@@ -15,3 +15,6 @@ pub mod Planning
 pub mod Matching
 pub mod Working
 pub mod Receiving
+pub mod Processes
+pub mod Backing
+pub mod Spaces

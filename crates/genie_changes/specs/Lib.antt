@@ -6,3 +6,4 @@ pub mod Owned
 pub mod Pages
 pub mod Pending
 pub mod Working
+pub mod Regions
