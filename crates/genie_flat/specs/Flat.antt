@@ -1,5 +1,5 @@
 -- What the plain machine is seen as: a state, or none once memory ran out.
-use Rattle.std.specs.Prelude.{◌≡◌, ◌<◌, ◌^◌, ℕ, Option, None, Some, Result, Ok, Err, List, []}
+use Rattle.std.specs.Prelude.{◌≡◌, ℕ, Option, None, Some, Result, Ok, Err, List}
 use Rattle.genie_base.specs.declared.event.Event.{Event}
 use Rattle.genie_base.specs.declared.reply.Mark.{Mark}
 use Rattle.genie_base.specs.declared.reply.Reply.{Reply}

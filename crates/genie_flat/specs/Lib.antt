@@ -1,4 +1,2 @@
-pub mod Changes
 pub mod Flat
 pub mod Shape
-pub mod Targets

@@ -7,13 +7,10 @@ ghost use Rattle.genie_model.specs.Inputs.{address_or_zero};
 ghost use Rattle.genie_model.specs.Regions.{write_reach_of};
 ghost use Rattle.genie_model.specs.Ending.{finish, finish_for, finish_owned, finish_input, finish_copy, finish_move, finish_share, finish_weak_move, after_landing, region_of, without_transfer};
 
-use crate::change::Change;
 use crate::machine::Machine;
-use crate::region::Region;
-use crate::table;
-use crate::transfer::Transfer;
-use crate::transfers::take;
 use genie_base::{Class, Direction, RegionState, Reply};
+use genie_tables::transfers::take;
+use genie_tables::{Change, Region, Transfer, table};
 
 impl Machine {
     // Whether a device matches a record by its header.

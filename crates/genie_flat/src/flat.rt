@@ -8,11 +8,9 @@ ghost use Rattle.genie_model.specs.Step.{HasNumber};
 ghost use Rattle.genie_model.specs.Sending.{sent_of};
 ghost use Rattle.genie_model.specs.State.{boot, boot_device, boot_devices};
 
-use crate::device::Device;
 use crate::machine::Machine;
-use crate::process::Process;
-use crate::table;
 use genie_base::{Config, DeviceConfig, Event, Mark, NoMemory, PageBuffer, PageSize, Reply};
+use genie_tables::{Device, Process, table};
 use std::alloc::Global;
 use std::marker::Model;
 

@@ -10,15 +10,13 @@ ghost use Rattle.genie_model.specs.Inputs.{pages_for, has_pages, reusable, moved
 ghost use Rattle.genie_model.specs.Refusing.{must_make};
 ghost use Rattle.genie_model.specs.Ending.{cancel, region_of};
 ghost use Rattle.genie_model.specs.Space.{zeros_at_place, add_region};
-ghost use Rattle.genie_flat.specs.Targets.{address_of};
+ghost use Rattle.genie_tables.specs.Targets.{address_of};
 
 use crate::machine::Machine;
-use crate::orphan::Orphan;
-use crate::region::Region;
-use crate::table;
-use crate::transfer::{Target, Transfer, address_or_zero};
-use crate::transfers::any_names;
 use genie_base::{Class, NoMemory, RegionState};
+use genie_tables::transfer::address_or_zero;
+use genie_tables::transfers::any_names;
+use genie_tables::{Orphan, Region, Target, Transfer, table};
 
 fn any_with_pages(regions: &[Region], number: u32, pages: u32) -> bool
     ensures { result ≡ list_any (has_pages number pages) regions.now }

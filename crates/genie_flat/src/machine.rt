@@ -1,18 +1,14 @@
 //! The state of the plain machine.
 ghost use Rattle.std.specs.Prelude.{◌≡◌, IfOk};
 ghost use Rattle.std.specs.Option.{option_copied};
-ghost use Rattle.genie_flat.specs.Changes.{change_of};
-ghost use Rattle.genie_model.specs.Regions.{is_alive, reach_of, write_reach_of, region_numbered, orphan_numbered, orphan_part, bytes_of, address_of, change_region, put};
+ghost use Rattle.genie_tables.specs.Changes.{change_of};
+ghost use Rattle.genie_model.specs.Regions.{reach_of, write_reach_of, region_numbered, orphan_numbered, orphan_part, bytes_of, address_of, change_region, put};
 ghost use Rattle.genie_model.specs.Space.{tidy, region_from};
+ghost use Rattle.genie_model.specs.Tables.{entry};
 
-use crate::change::Change;
-use crate::device::Device;
-use crate::orphan::{Orphan, orphan_numbered, store_in_orphan, tidy};
-use crate::process::Process;
-use crate::region::Region;
-use crate::table;
-use crate::transfer::Transfer;
 use genie_base::{Config, NoMemory, PageSize};
+use genie_tables::orphan::{orphan_numbered, store_in_orphan, tidy};
+use genie_tables::{Change, Device, Orphan, Process, Region, Transfer, table};
 use std::alloc::Global;
 use std::marker::Model;
 
@@ -49,11 +45,11 @@ impl Machine {
         tidy(&mut self.orphans, self.transfers.as_slice());
     }
 
-    // Whether a process is alive.
-    pub(crate) fn is_alive(&self, pid: u32) -> bool
-        ensures { result ≡ is_alive self.now pid }
+    // The process of this number.
+    pub(crate) fn process(&self, pid: u32) -> Option<&Process>
+        ensures { option_copied result ≡ entry self.now.processes pid }
     {
-        table::entry_of(self.processes.as_slice(), pid).is_some()
+        table::entry_of(self.processes.as_slice(), pid)
     }
 
     // The region that an access of a process reaches.

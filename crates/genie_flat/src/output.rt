@@ -6,13 +6,11 @@ ghost use Rattle.genie_model.specs.Regions.{reach_of};
 ghost use Rattle.genie_model.specs.Pending.{add_transfer};
 ghost use Rattle.genie_model.specs.Outputs.{place_reached, number_of, output_of, moved_out, output};
 ghost use Rattle.genie_model.specs.Space.{as_orphan};
-ghost use Rattle.genie_flat.specs.Targets.{address_of};
+ghost use Rattle.genie_tables.specs.Targets.{address_of};
 
 use crate::machine::Machine;
-use crate::orphan::Orphan;
-use crate::table;
-use crate::transfer::{Call, Target, Transfer};
 use genie_base::{Class, NoMemory};
+use genie_tables::{Call, Orphan, Target, Transfer, table};
 
 impl Machine {
     // Where an access begins in the region that it reaches.

@@ -2,19 +2,17 @@
 ghost use Rattle.std.specs.Prelude.{◌≡◌, ◌+◌, ◌-◌, ◌<◌, ◌≤◌, ◌^◌, ◌++◌, length, slice_index, Some, IfOk, OnOk};
 ghost use Rattle.genie_base.specs.Headers.{header_taken, payload_taken, port_in, flow_in};
 ghost use Rattle.genie_base.specs.Configs.{most};
-ghost use Rattle.genie_flat.specs.Changes.{turn_of, IsSmall};
+ghost use Rattle.genie_tables.specs.Changes.{turn_of, IsSmall};
 ghost use Rattle.genie_model.specs.Pending.{first_posted, pending};
 ghost use Rattle.genie_model.specs.Tables.{entry};
 ghost use Rattle.genie_model.specs.Receiving.{header_reply, set_device, change_transfer, is_busy, deliver, complete, go_on, land, land_in, take_payload, receive_payload, match_header, begin_datagram, read_header, take_header, receive_record, receive, recv, stays_in_payload, is_received, stays_behind_header, stays_inside, may_fail_at, may_fail_receiving};
 
-use crate::change::Turn;
-use crate::datagram::{Datagram, is_valid_header, is_whole_header, len_in, size_of_header};
-use crate::device::Device;
 use crate::machine::Machine;
-use crate::table;
-use crate::transfers::{arrived, first_posted, numbered, turn_first};
 use genie_base::{NoMemory, Reply};
 use genie_model::Fate;
+use genie_tables::datagram::{is_valid_header, is_whole_header, len_in, size_of_header};
+use genie_tables::transfers::{arrived, first_posted, numbered, turn_first};
+use genie_tables::{Datagram, Device, Turn, table};
 use std::alloc::Global;
 
 // Bytes behind others.

@@ -6,10 +6,9 @@ ghost use Rattle.genie_model.specs.Pending.{first_queued, is_outboard_at};
 ghost use Rattle.genie_model.specs.Sending.{send, send_count, stage_count, next_part, staged_now, named_bytes, payload_of, must_stage, may_fail_sending};
 
 use crate::machine::Machine;
-use crate::table;
-use crate::transfer::Transfer;
-use crate::transfers::{first_queued, send_first, stage_first};
 use genie_base::{NoMemory, Reply, part};
+use genie_tables::transfers::{first_queued, send_first, stage_first};
+use genie_tables::{Transfer, table};
 
 impl Machine {
     // Whether a device stages its output.

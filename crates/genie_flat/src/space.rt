@@ -5,14 +5,11 @@ ghost use Rattle.genie_model.specs.State.{Region as Placed};
 ghost use Rattle.genie_model.specs.Regions.{fresh, is_used, regions_at, reach_of, place_of, with_state};
 ghost use Rattle.genie_model.specs.Space.{spawn, zeros, zeros_at_place, map_pages, alloc, as_orphan, remove, unmap, protect, accessible, copy_of, add_copies, fork, add_orphans, exit, bytes_reached, write, add_region};
 
-use crate::change::Change;
 use crate::machine::Machine;
-use crate::orphan::{Orphan, add_orphans, any_orphan, insert_orphan};
-use crate::process::Process;
-use crate::region::{Purpose, Region};
-use crate::table;
-use crate::transfers::disown_all;
 use genie_base::{Area, NoMemory, RegionState, Reply};
+use genie_tables::orphan::{add_orphans, any_orphan, insert_orphan};
+use genie_tables::transfers::disown_all;
+use genie_tables::{Change, Orphan, Process, Purpose, Region, table};
 
 /// More numbers than regions and orphans can use.
 const MOST_NUMBERS: u32 = 577;

@@ -8,11 +8,11 @@ ghost use Rattle.genie_model.specs.Refusing.{refuse, must_make};
 ghost use Rattle.genie_model.specs.Regions.{reach_of, regions_at};
 ghost use Rattle.genie_model.specs.Space.{bytes_reached};
 ghost use Rattle.genie_model.specs.Step.{step, marked, perform, accept, failed, may_fail, with_budget, uses_store};
-ghost use Rattle.genie_flat.specs.Targets.{address_of};
+ghost use Rattle.genie_tables.specs.Targets.{address_of};
 
 use crate::machine::Machine;
-use crate::transfer::Target;
 use genie_base::{Class, Event, Mark, NoMemory, PageBuffer, Reply};
+use genie_tables::Target;
 
 // Whether the store may fail in an event.
 fn uses_store(event: &Event) -> bool
@@ -236,7 +236,7 @@ impl Machine {
         requires numbered { HasNumber self.old }
         ensures { IfOk result (λ reply. step self.old event.now mark.now ≡ (self.new, reply)) }
     {
-        match self.refusal(event) {
+        match genie_refusal::refuse(self, event) {
             Some(refusal) => Ok(Reply::Err(refusal)),
             None => self.marked(event, mark, into),
         }

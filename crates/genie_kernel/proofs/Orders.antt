@@ -1,8 +1,13 @@
 -- Transfers in order, over a slab.
-use Rattle.std.proofs.Common.{◌≡◌, ◌≢◌, ℕ, ◌<◌, ◌≤◌, ◌+◌, suc, true, false, List, [], ◌∷◌, ◌++◌, refl, arith, ap, length, map, get_or, sym, ◌∙◌, length-append}
+use Rattle.std.proofs.Common.{◌≡◌, ◌≢◌, ℕ, ◌<◌, ◌≤◌, ◌+◌, suc, true, false, List, [], ◌∷◌, ◌++◌, refl, arith, ap, length, map, get_or, sym, ◌∙◌, length-append, ⊎_elim}
 use Rattle.std.specs.Prelude.{Some, None, unwrap_or, is_some}
 use Rattle.std.proofs.lemmas.List.{map-append}
-use Rattle.std.proofs.lemmas.List.Quantifiers.{all_pairs_push}
+use Rattle.std.proofs.lemmas.List.Quantifiers.{all_pairs_push, all_pairs_remove}
+use Rattle.std.proofs.lemmas.List.Edits.{get_or-remove_below, get_or-remove_above, length-remove}
+use Rattle.std.proofs.lemmas.Bool.{cases_lt}
+use Rattle.std.specs.List.{remove}
+use Rattle.genie_base.specs.Lemmas.Places.{any_default}
+use Rattle.genie_kernel.specs.Lemmas.Searching.{map_removed}
 use Rattle.std.proofs.lemmas.List.Elements.{All-push}
 use Rattle.slab.specs.Slab.{Slab, get, slab_len, Updates}
 use Rattle.genie_kernel.specs.declared.transfer.Transfer.{Transfer}
@@ -31,3 +36,40 @@ module _ (old new : Slab Transfer) (order : List ℕ) (room key : ℕ) (t : Tran
     slots_room = let had = s.slots_room in omega (arith, had, capacity);
     order_room = let had = s.order_room in omega (arith, had, grown);
   }
+
+-- one key less
+module _ (old new : Slab Transfer) (order : List ℕ) (room at : ℕ) (s : IsOrder old order room) (there : at < length order) (u : Updates old new (get_or order at 0) None) where
+  abbrev left : List ℕ
+  left = remove order at
+
+  -- each key that is left is another one of those before
+  kept_key : (k d : ℕ) → k < length left → (get_or left k d ≢ get_or order at 0) × (is_some (get old (get_or left k d)) ≡ true)
+  kept_key k d l =
+      let long = length-remove order at there in
+      let same : get_or order at d ≡ get_or order at 0 = any_default order at d 0 there in
+      ⊎_elim
+      (λ below.
+      let is = get_or-remove_below order at d k below there in
+      (λ e. s.apart k at d below there (sym is ∙ e ∙ sym same), ap (λ key. is_some (get old key)) is ∙ s.occupied k d (omega arith)))
+      (λ above.
+      let is = get_or-remove_above order at d k above there in
+      (λ e. s.apart at (k + 1) d (omega arith) (omega arith) (same ∙ sym e ∙ is), ap (λ key. is_some (get old key)) is ∙ s.occupied (k + 1) d (omega arith)))
+      (cases_lt k at)
+
+  still : (k d : ℕ) → k < length left → get new (get_or left k d) ≡ get old (get_or left k d)
+  still k d l = u.others (get_or left k d) (kept_key k d l).0
+
+  pub transfers_removed : transfers_of new left ≡ remove (transfers_of old order) at
+  transfers_removed = map_same (transfer_at new) (transfer_at old) 0 left (λ k l. ap (λ o. unwrap_or o no_transfer) (still k 0 l)) ∙ map_removed (transfer_at old) order at there
+
+  pub order_removed : (more : ℕ) → room ≤ more → slab_len new + 1 ≡ slab_len old → new.capacity ≡ old.capacity → IsOrder new left more
+  order_removed more grown shorter capacity =
+      let long = length-remove order at there in
+      record {
+        occupied = λ k d l. ap is_some (still k d l) ∙ (kept_key k d l).1;
+        apart = all_pairs_remove (λ (a b : ℕ). a ≢ b) order at there s.apart;
+        len = let had = s.len in omega (arith, long, had, shorter);
+        most = let had = s.most in omega (arith, long, had);
+        slots_room = let had = s.slots_room in omega (arith, had, capacity);
+        order_room = let had = s.order_room in omega (arith, had, grown);
+      }

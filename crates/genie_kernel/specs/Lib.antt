@@ -1,6 +1,7 @@
 pub mod Loans
 pub mod Order
 pub mod Calls
+pub mod Searches
 pub mod Regions
 pub mod Orphans
 pub mod Transfers
@@ -21,3 +22,4 @@ pub mod Handles
 pub mod Booting
 pub mod Same
 pub mod Laws
+pub mod Lemmas

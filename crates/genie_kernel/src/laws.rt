@@ -1,15 +1,79 @@
 //! Laws of kernels.
-ghost use Rattle.genie_kernel.specs.Laws.{ViewIsTidy, StatesAreAlike, LentFramesSuffice};
+ghost use Rattle.genie_kernel.specs.Handles.{CallsKeepHandles};
+ghost use Rattle.genie_kernel.specs.Laws.{ViewIsTidy, StatesAreAlike, LentFramesSuffice, RefusesAlike, FreshIsAlike, MemoryCallsKeepGood, MemoryCallsKeepLent, HiddenStay, GuardsStay, RegionsChange, OwnedGrows, PostedShrinks, TransfersTurn};
+ghost use Rattle.genie_kernel.specs.Steps.{AcceptedStep, StaysOrderly};
+
+use genie_orderly::laws::steps_stay_orderly;
 
 /// Nothing is left of orphans but what pending weak transfers name and cover.
-#[tactic(auto, using(crate::proofs::Tidying::tidy_view))]
+#[tactic(auto, using(crate::specs::Lemmas::Tidying::tidy_view))]
 pub fn view_is_tidy()
     ensures { ViewIsTidy }
 {}
 
 /// The state is the same where entries, the frames that devices still need, and orphans show the same.
-#[tactic(auto, using(crate::proofs::Alike::state_alike, crate::proofs::Alike::lent_suffice))]
+#[tactic(auto, using(crate::specs::Lemmas::Alike::state_alike))]
 pub fn states_are_alike()
     ensures needed { StatesAreAlike }
     ensures lent { LentFramesSuffice }
+{}
+
+/// No cause of refusal looks at bytes: an event is refused or not by the outline alone.
+pub fn refuses_alike()
+    ensures { RefusesAlike }
+{}
+
+/// The number of a new region doesn't hang on the bytes.
+#[tactic(auto, using(crate::specs::Lemmas::Fresh::fresh_view))]
+pub fn fresh_is_alike()
+    ensures { FreshIsAlike }
+{}
+
+/// An event that the outline accepts is one step of the flat machine, and what it steps to is orderly.
+pub fn accepted_events_step()
+    ensures step { AcceptedStep }
+    ensures orderly { StaysOrderly }
+{
+    steps_stay_orderly();
+}
+
+/// A call of the memory that keeps loans leaves the kernel good, and no frame is freed by it or gets another owner while a
+/// device holds it.
+pub fn memory_calls_keep_good()
+    ensures good { MemoryCallsKeepGood }
+    ensures lent { MemoryCallsKeepLent }
+{}
+
+/// Hidden regions fit the memory, and read-only regions permit no writing, after a call that doesn't speak of their
+/// entries.
+pub fn unspoken_regions_stay()
+    ensures hidden { HiddenStay }
+    ensures guards { GuardsStay }
+{}
+
+/// A change of one region of one process is a change of that region, whoever has it.
+pub fn regions_change()
+    ensures { RegionsChange }
+{}
+
+/// A region more of a process is one more of all.
+#[tactic(auto, using(crate::specs::Lemmas::Adding::owned_added))]
+pub fn owned_grows()
+    ensures { OwnedGrows }
+{}
+
+/// The posted inputs once a transfer is pending no more.
+pub fn posted_shrinks()
+    ensures { PostedShrinks }
+{}
+
+/// What one transfer, changed, leaves of the table: each search that it fails before and afterwards, and each sum but for
+/// what it adds itself.
+pub fn transfers_turn()
+    ensures { TransfersTurn }
+{}
+
+/// A call on one handle leaves the handles of the configuration open in their directions.
+pub fn calls_keep_handles()
+    ensures { CallsKeepHandles }
 {}

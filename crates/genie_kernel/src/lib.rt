@@ -3,9 +3,11 @@
 
 pub mod kernel;
 pub mod laws;
+pub mod search;
 pub mod transfer;
 pub mod transfers;
 
 pub use crate::kernel::Kernel;
+pub use crate::search::Search;
 pub use crate::transfer::{Loans, Transfer};
 pub use crate::transfers::{MOST_PENDING, Transfers};

@@ -1,7 +1,8 @@
 //! A pending transfer.
 ghost use Rattle.std.specs.Prelude.{◌≡◌};
-ghost use Rattle.genie_model.specs.Pending.{is_inward};
-ghost use Rattle.genie_kernel.specs.Calls.{has_number, is_named, is_weak_input_into};
+ghost use Rattle.genie_model.specs.Pending.{is_inward, is_queued, is_moving};
+ghost use Rattle.genie_kernel.specs.Calls.{has_number, is_named, is_weak_input_into, waits_for, receives_from};
+ghost use Rattle.genie_kernel.specs.Searches.{names};
 
 use genie_base::{Direction, Note, RegionId, Semantics, TransferId};
 use genie_model::Phase;
@@ -50,6 +51,18 @@ fn is_inward(direction: Direction) -> bool
     matches!(direction, Direction::Inward)
 }
 
+fn is_queued(phase: Phase) -> bool
+    ensures { result ≡ is_queued phase }
+{
+    matches!(phase, Phase::Queued)
+}
+
+fn is_moving(phase: Phase) -> bool
+    ensures { result ≡ is_moving phase }
+{
+    matches!(phase, Phase::Moving)
+}
+
 // Whether the region is the one with this number.
 fn is_named(region: Option<RegionId>, number: u32) -> bool
     ensures { result ≡ is_named region number }
@@ -66,6 +79,27 @@ impl Transfer {
         ensures { result ≡ has_number id self.now }
     {
         self.id.0 == id
+    }
+
+    /// Whether it is an output of this device that isn't wholly sent.
+    pub fn waits_for(&self, dev: u32) -> bool
+        ensures { result ≡ waits_for dev self.now }
+    {
+        is_queued(self.phase) && self.dev == dev
+    }
+
+    /// Whether it is an input into which this device moves a datagram.
+    pub fn receives_from(&self, dev: u32) -> bool
+        ensures { result ≡ receives_from dev self.now }
+    {
+        is_moving(self.phase) && self.dev == dev
+    }
+
+    /// Whether it names this region or orphan.
+    pub fn names(&self, region: u32) -> bool
+        ensures { result ≡ names region self.now }
+    {
+        is_named(self.region, region)
     }
 
     /// Whether it is a weak input of this region or orphan.

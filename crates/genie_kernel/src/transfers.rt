@@ -1,8 +1,11 @@
 //! The pending transfers.
-ghost use Rattle.std.specs.Prelude.{◌≡◌};
+ghost use Rattle.std.specs.Prelude.{◌≡◌, None, IfSome, false};
+ghost use Rattle.std.specs.List.{list_any};
+ghost use Rattle.genie_kernel.specs.Searches.{IsFirst, passes};
 
+use crate::search::Search;
 use crate::transfer::Transfer;
-use genie_base::NoMemory;
+use genie_base::{NoMemory, TransferId};
 use slab::Slab;
 use std::alloc::Global;
 use std::marker::Model;
@@ -30,7 +33,11 @@ impl Model for Transfers {
 }
 
 impl Transfers {
-    ghost use Rattle.std.specs.Prelude.{◌<◌, ◌≤◌, ◌++◌, [], ◌∷◌, IfOk, length};
+    ghost use Rattle.std.specs.Prelude.{◌<◌, ◌≤◌, ◌++◌, [], ◌∷◌, IfOk, IsSome, Some, length, find, slice_index_or};
+    ghost use Rattle.std.specs.Option.{option_copied};
+    ghost use Rattle.genie_model.specs.Tables.{without};
+    ghost use Rattle.genie_kernel.specs.Calls.{has_number};
+    ghost use Rattle.genie_kernel.specs.declared.transfer.Transfer.{Transfer as TransferView};
 
     /// No transfer.
     pub fn new(alloc: Global) -> Result<Transfers, NoMemory>
@@ -50,6 +57,63 @@ impl Transfers {
         self.order.len() as u32
     }
 
+    /// The transfer at place `i`, in the order of numbers.
+    pub fn at(&self, i: u32) -> &Transfer
+        requires { i < length self.now }
+        ensures { (d : TransferView) → slice_index_or self.now i d ≡ result.now }
+    {
+        match self.slots.get(self.order[i as usize]) {
+            Some(transfer) => transfer,
+            None => unreachable!(),
+        }
+    }
+
+    /// Where the first transfer is that passes, or `None` exactly where none does.
+    pub fn first(&self, search: Search) -> Option<u32>
+        ensures found { IfSome result (IsFirst (passes search) self.now) }
+        ensures none { result ≡ None → list_any (passes search) self.now ≡ false }
+    {
+        first_of(self, search)
+    }
+
+    /// The first transfer that passes, or `None` exactly where none does.
+    pub fn find(&self, search: Search) -> Option<&Transfer>
+        ensures { option_copied result ≡ find (passes search) self.now }
+    {
+        match self.first(search) {
+            Some(i) => Some(self.at(i)),
+            None => None,
+        }
+    }
+
+    /// Whether a transfer passes.
+    pub fn any(&self, search: Search) -> bool
+        ensures { result ≡ list_any (passes search) self.now }
+    {
+        match self.first(search) {
+            Some(_) => true,
+            None => false,
+        }
+    }
+
+    /// Takes a transfer out. The others stay in order.
+    pub fn remove(&mut self, id: TransferId) -> Transfer
+        requires { IsSome (find (has_number id.0) self.old) }
+        ensures removed { find (has_number id.0) self.old ≡ Some result }
+        ensures others { self.new ≡ without (has_number id.0) self.old }
+    {
+        match first_of(self, Search::Number(id.0)) {
+            Some(i) => {
+                let key = self.order.remove(i as usize);
+                match self.slots.try_remove(key) {
+                    Some(transfer) => transfer,
+                    None => unreachable!(),
+                }
+            }
+            None => unreachable!(),
+        }
+    }
+
     /// Adds a transfer behind the others.
     #[tactic(auto, using(crate::proofs::Orders::transfers_pushed))]
     pub fn add(&mut self, transfer: Transfer)
@@ -62,4 +126,17 @@ impl Transfers {
             Err(_) => unreachable!(),
         }
     }
+}
+
+// Where the first transfer is that passes.
+fn first_of(transfers: &Transfers, search: Search) -> Option<u32>
+    ensures found { IfSome result (IsFirst (passes search) transfers.now) }
+    ensures none { result ≡ None → list_any (passes search) transfers.now ≡ false }
+{
+    'each: for i in 0..transfers.len() {
+        if search.passes(transfers.at(i)) {
+            return Some(i);
+        }
+    }
+    None
 }

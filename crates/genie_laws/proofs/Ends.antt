@@ -1,2 +1,3 @@
 -- The ends of transfers.
 pub mod Moves
+pub mod Payloads

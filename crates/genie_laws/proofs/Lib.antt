@@ -4,3 +4,4 @@ pub mod Inputs
 pub mod Levels
 pub mod Outputs
 pub mod Runs
+pub mod Streams

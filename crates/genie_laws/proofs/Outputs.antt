@@ -1,4 +1,5 @@
 -- What devices send.
+pub mod Called
 pub mod Events
 pub mod Ranges
 pub mod ReceiveSteps
@@ -6,3 +7,4 @@ pub mod Records
 pub mod SendSteps
 pub mod Sent
 pub mod Turns
+pub mod Whole

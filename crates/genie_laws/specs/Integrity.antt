@@ -1,5 +1,5 @@
 -- Integrity: what a run sends is what the outputs' buffers had, and what it receives shows nowhere too soon.
-use Rattle.std.specs.Prelude.{◌≡◌, ◌⊎◌, ℕ, ◌+◌, ◌-◌, ◌<◌, ◌==◌, nat_le, nat_lt, Bool, IsTrue, ◌&&◌, List, [], ◌∷◌, ◌++◌, length, take, get_or, All, Option, None, Some, ⊤, if◌then◌else◌}
+use Rattle.std.specs.Prelude.{◌≡◌, ◌⊎◌, ℕ, ◌+◌, ◌-◌, ◌<◌, ◌==◌, nat_le, nat_lt, Bool, true, false, IsTrue, ◌&&◌, List, [], ◌∷◌, ◌++◌, length, take, get_or, map, filter, All, Option, None, Some, ⊤, if◌then◌else◌}
 use Rattle.std.specs.List.{list_any, Any}
 use Rattle.genie_base.specs.Bytes.{part}
 use Rattle.genie_base.specs.Configs.{Config, Fits}
@@ -19,16 +19,17 @@ use Rattle.genie_model.specs.Sending.{sent_of}
 use Rattle.genie_model.specs.Inputs.{address_or_zero}
 use Rattle.genie_orderly.specs.Orderly.{IsOrderly, matched_to}
 use Rattle.genie_model.specs.Outputs.{number_of, place_reached}
-use Rattle.genie_model.specs.Pending.{is_inward, covers, pending, first_posted, is_early_at}
+use Rattle.genie_model.specs.Pending.{is_inward, is_ready, covers, pending, waits_for, first_posted, is_early_at}
 use Rattle.genie_model.specs.Regions.{bytes_of, reach_of, place_in, write_reach_of}
 use Rattle.genie_model.specs.Space.{bytes_reached}
 use Rattle.genie_model.specs.State.{State, Region, Transfer, Device, Datagram, boot}
 use Rattle.genie_model.specs.Step.{step, Follows}
 use Rattle.genie_model.specs.Tables.{entry}
 
--- an output that was accepted: its header, the bytes of its range at the call, where the range lies, and the states from
--- the call on
+-- an output that was accepted: its number and header, the bytes of its range at the call, where the range lies, and the
+-- states from the call on
 pub record Accepted : Type 0 where
+  pub number : ℕ
   pub class : Class
   pub header : List ℕ
   pub len : ℕ
@@ -47,6 +48,7 @@ abbrev pub accepted : ℕ → State → Event → Reply → List State → List 
 accepted d s (Output p sem dev port flow a n) (Id k) later =
     let reached = reach_of s p a n in
     if dev == d then record {
+      number = k;
       class = class_of sem;
       header = header_bytes port flow n;
       len = n;
@@ -102,6 +104,35 @@ pub record SendsRecords (d : ℕ) (os : List Accepted) (last : State) : Type 0 w
 -- So it is in every run; and of a run that is cut anywhere, so that a byte is one from the call up to the step that sent it.
 abbrev pub OutputsKeepIntegrity : Type 0
 OutputsKeepIntegrity = (c : Config) (inputs : ℕ → List ℕ) (es : List Event) (rs : List Reply) (last : State) (d : ℕ) → Fits c → All (λ (e : Event). IsTrue (is_whole e)) es → Follows (boot c inputs) es rs last → SendsRecords d (outputs d (boot c inputs) es rs) last
+
+-- the output is the call of this transfer
+abbrev pub IsCallOf : Transfer → Accepted → Type 0
+IsCallOf t o = (o.number ≡ t.number) × (o.header ≡ header_bytes t.port t.flow t.len) × (o.len ≡ t.len)
+
+-- where the transfer is a ready output of device d, one of these is its call
+abbrev pub IsAmong : List Accepted → ℕ → Transfer → Type 0
+IsAmong os d t = is_inward t.direction ≡ false → t.device ≡ d → is_ready t.phase ≡ true → Any (IsCallOf t) os
+
+-- The outputs that wait in the last state are the last ones. Of those before them, which are ready or at their end, the
+-- device has sent the records whole, one after the other, and then a front of what waits.
+pub record SendsWhole (d : ℕ) (os : List Accepted) (last : State) : Type 0 where
+  pub over : List Accepted
+  pub waiting : List Accepted
+  pub all : os ≡ over ++ waiting
+  pub wait : map (λ (o : Accepted). o.number) waiting ≡ map (λ (t : Transfer). t.number) (filter (waits_for d) last.transfers)
+  pub payloads : List (List ℕ)
+  pub are : ArePayloads over payloads
+  pub others : List (List ℕ)
+  pub are_others : ArePayloads waiting others
+  pub begun : List ℕ
+  pub sent : sent_of last d ≡ records over payloads ++ begun
+  pub left : List ℕ
+  pub front : records waiting others ≡ begun ++ left
+  pub ready : All (IsAmong over d) last.transfers
+
+-- so it is in every run: no record is sent in part but that of the first output that waits
+abbrev pub OutputsAreSentWhole : Type 0
+OutputsAreSentWhole = (c : Config) (inputs : ℕ → List ℕ) (es : List Event) (rs : List Reply) (last : State) (d : ℕ) → Fits c → All (λ (e : Event). IsTrue (is_whole e)) es → Follows (boot c inputs) es rs last → SendsWhole d (outputs d (boot c inputs) es rs) last
 
 -- a weak input covers place x of region or orphan k
 abbrev pub is_under_input : ℕ → ℕ → Transfer → Bool

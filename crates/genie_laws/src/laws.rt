@@ -1,5 +1,6 @@
 //! Laws of the flat machine.
-ghost use Rattle.genie_laws.specs.Integrity.{OutputsKeepIntegrity, InputsKeepIntegrity, CoveredBytesStay, WeakTransfersKeepBytes};
+ghost use Rattle.genie_laws.specs.Integrity.{OutputsKeepIntegrity, OutputsAreSentWhole, InputsKeepIntegrity, CoveredBytesStay, WeakTransfersKeepBytes};
+ghost use Rattle.genie_laws.specs.Streams.{InputsGetRecords, DoneStoresRecords};
 ghost use Rattle.genie_laws.specs.Laws.{RefusalsChangeNothing, LevelsStepAlike, ThresholdsStepAlike, RunsAlike, RunsCount, MovesAreNotLost};
 
 use genie_orderly::laws;
@@ -50,11 +51,37 @@ pub fn outputs_keep_integrity()
     laws::steps_stay_orderly();
 }
 
+/// No record is sent in part but that of the first output that waits: of the accepted outputs of a device the last ones
+/// wait, and the records of all others, the ready ones too, were sent whole.
+pub fn outputs_are_sent_whole()
+    ensures { OutputsAreSentWhole }
+{
+    laws::boot_is_orderly();
+    laws::steps_stay_orderly();
+    laws::runs_stay_orderly();
+}
+
 /// A receive step leaves each byte, or stores the payload's byte where the weak input that its record meets covers it; so a
 /// strong input changes none before it is done.
 #[tactic(auto, using(crate::proofs::Inputs::ReceiveSteps::inputs_keep_integrity))]
 pub fn inputs_keep_integrity()
     ensures { InputsKeepIntegrity }
+{}
+
+/// In each state of a run a device has taken whole records of its input, one after the other, which stay taken; each of
+/// them went to at most one input call, and no two to the same one. A ready input has the front of its record's payload that
+/// fits its buffer, and a posted one nothing.
+pub fn inputs_get_records()
+    ensures { InputsGetRecords }
+{
+    laws::boot_is_orderly();
+    laws::steps_stay_orderly();
+}
+
+/// `done` of an input that got a record stores the front of its payload at the buffer's start, and tells its length; but for
+/// a weak input on an early device, where the bytes have landed before.
+pub fn done_stores_records()
+    ensures { DoneStoresRecords }
 {}
 
 /// Every event leaves a byte that a pending weak transfer covers before and after it, but where it is a write, a receive

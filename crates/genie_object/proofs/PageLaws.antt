@@ -1,16 +1,16 @@
 -- The table of pages over a slab.
-use Rattle.std.proofs.Common.{◌≡◌, ◌≢◌, ℕ, ◌<◌, ◌≤◌, ◌+◌, suc, zero, Bool, true, false, List, [], ◌∷◌, refl, arith, ap, length, map, set, get_or, sym, ◌∙◌, inl, inr}
+use Rattle.std.proofs.Common.{◌≡◌, ◌≢◌, ℕ, ◌<◌, ◌≤◌, ◌+◌, suc, zero, true, false, List, [], ◌∷◌, refl, arith, ap, length, map, set, get_or, sym, ◌∙◌, inl, inr}
 use Rattle.std.specs.Prelude.{Option, Some, None, unwrap_or, is_some, count_by, All, OnSome}
 use Rattle.std.specs.List.{range_with_len}
 use Rattle.std.proofs.lemmas.Bool.{cases_lt}
 use Rattle.std.proofs.lemmas.Bool.Decides.{nat_tests}
 use Rattle.std.proofs.lemmas.List.{length-map}
 use Rattle.std.proofs.lemmas.List.FromFn.{get_or-range_with_len, get_or-map-range_with_len, length-range_with_len}
-use Rattle.std.proofs.lemmas.List.Sums.{sum_by-cons}
 use Rattle.slab.specs.Slab.{Slab, get, slab_len, Updates, with_value, ContainsKey}
 use Rattle.slab.proofs.SlabLemmas.{ContainsKey-within, Updates-with_value}
 use Rattle.genie_base.specs.Lemmas.Places.{same_or, past_end, num, count_by-set}
 use Rattle.genie_object.specs.declared.pages.PageInfo.{PageInfo}
+use Rattle.genie_object.specs.Lemmas.Lookup.{count_none}
 use Rattle.genie_object.specs.Pages.{PageTable, set_page, no_page, page_at, is_there, info_at, pages_of, IsTable}
 
 map_same : {X Y : Type 0} (f g : X → Y) (d : X) (xs : List X) → ((k : ℕ) → k < length xs → f (get_or xs k d) ≡ g (get_or xs k d)) → map f xs ≡ map g xs
@@ -108,10 +108,6 @@ remove_set old new most key t there u same = table_set old new key None u same (
 -- an empty slab
 vacant_key : (s : Slab PageInfo) (key : ℕ) → s.slots ≡ [] → get s key ≡ None
 vacant_key s key empty = ap (λ xs. get_or xs key None) empty
-
-count_none : {X : Type 0} (q : X → Bool) (d : X) (xs : List X) → ((k : ℕ) → k < length xs → q (get_or xs k d) ≡ false) → count_by q xs ≡ 0
-count_none q d [] h = refl
-count_none q d (x ∷ xs) h = let e = ap num (h 0 (omega arith)) in omega (arith, sum_by-cons (λ y. num (q y)) x xs, e, count_none q d xs (λ k l. h (suc k) (omega arith)))
 
 pub new_empty : (s : Slab PageInfo) → s.slots ≡ [] → All (λ q. q ≡ no_page) (pages_of s)
 new_empty s empty = λ k d l. get_or-map-range_with_len (info_at s) 0 s.capacity k k d (rw (← table_len s) l) (omega arith) ∙ ap (λ o. unwrap_or o no_page) (vacant_key s k empty)

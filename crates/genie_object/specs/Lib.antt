@@ -2,6 +2,7 @@ pub mod Calls
 pub mod Costs
 pub mod Keeping
 pub mod Laws
+pub mod Leaving
 pub mod Lemmas
 pub mod Memory
 pub mod Objects

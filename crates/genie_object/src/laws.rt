@@ -1,5 +1,5 @@
 //! Laws of a memory.
-ghost use Rattle.genie_object.specs.Laws.{MovesSoundly, ComesUnseen, RenamesSoundly, PermitsUnseen};
+ghost use Rattle.genie_object.specs.Laws.{MovesSoundly, ComesUnseen, GoesUnseen, RenamesSoundly, PartsUnseen, PermitsUnseen, SharesSoundly, DropsSoundly, LeavesSoundly, EmptiesSoundly, RemovesUnseen};
 ghost use Rattle.genie_object.specs.Keeping.{ShowsSame, ShowsCounts, ShowsStored, ShowsLanded, ShowsFrame, ShowsSameBytes, ShowsDisowned, ShowsGiven, ShowsTaken, ShowsLent, ShowsEnded, ShowsUnseenEnd, ShowsLastLoan, ShowsUnlent, KeepsSound};
 
 /// A step that leaves bytes, places and entries alone shows what was seen before.
@@ -109,4 +109,43 @@ pub fn fresh_page_law()
 /// An entry that permits more leaves the memory sound, and shows what was seen before.
 pub fn permitted_entry_law()
     ensures { PermitsUnseen }
+{}
+
+/// A page that goes to a slot, where the slot has its bytes, shows what was seen before.
+pub fn going_page_law()
+    ensures { GoesUnseen }
+{}
+
+/// An entry that gets a page of its own in a free frame leaves the memory sound. It shows what was seen before where the
+/// frame has the bytes of the page that it shared (a copy), or zeros where it named none (a page that is touched first).
+pub fn parted_page_law()
+    ensures { PartsUnseen }
+{}
+
+/// An empty entry that comes to name a page which others name leaves the memory sound and keeps all loans. It shows what
+/// they show, and nothing else changes.
+pub fn shared_page_law()
+    ensures { SharesSoundly }
+{}
+
+/// A page that goes with its last holder leaves the memory sound. The entry shows zeros; a frame that is lent is
+/// nobody's, and shows its bytes by itself.
+pub fn last_holder_law()
+    ensures { DropsSoundly }
+{}
+
+/// An entry that leaves its page to those that share it leaves the memory sound, and shows zeros.
+pub fn left_page_law()
+    ensures { LeavesSoundly }
+{}
+
+/// An entry that is emptied, whatever page it named, leaves the memory sound and every other entry as it was, and shows
+/// zeros. A frame that is lent and goes with it shows its bytes by itself.
+pub fn emptied_entry_law()
+    ensures { EmptiesSoundly }
+{}
+
+/// An object of empty entries that is taken away leaves the memory sound, and shows what was seen before.
+pub fn removed_object_law()
+    ensures { RemovesUnseen }
 {}

@@ -1,8 +1,7 @@
 -- What is left where a page was put to the store.
-use Rattle.std.proofs.Common.{◌≡◌, ◌≢◌, ℕ, ◌<◌, ◌≤◌, ◌+◌, Bool, true, false, not, List, [], ◌∷◌, refl, arith, ap, rules, length, set, get_or, sym, ◌∙◌, inl, inr, subst, get_or-set_other, get_or-set_same, suc}
+use Rattle.std.proofs.Common.{◌≡◌, ℕ, ◌<◌, ◌≤◌, ◌+◌, Bool, true, false, not, List, refl, arith, ap, length, set, get_or, sym, ◌∙◌, inl, inr, subst, get_or-set_other, get_or-set_same}
 use Rattle.std.specs.Prelude.{◌&&◌, Option, Some, None, count_by, if◌then◌else◌}
 use Rattle.std.specs.Option.{option_map}
-use Rattle.std.proofs.lemmas.List.Sums.{sum_by-cons}
 use Rattle.genie_base.specs.Lemmas.Places.{num, count_by-set, same_or}
 use Rattle.genie_frame.specs.declared.frame.Meters.{Meters}
 use Rattle.genie_frame.specs.declared.frame.Owner.{Owner}
@@ -28,7 +27,7 @@ use Rattle.genie_hiding.specs.Lemmas.Naming.{cached_kept, same_visible, times_sa
 use Rattle.genie_hiding.specs.Lemmas.Sweeping.{swept_one, count_both-set}
 use Rattle.genie_pageout.proofs.Swept.{count_both-same}
 use Rattle.genie_pageout.specs.Evicting.{IsGone}
-use Rattle.genie_pageout.specs.Going.{may_go, may_go_from, allowed, AreMarks, AreGone, StayGone}
+use Rattle.genie_pageout.specs.Going.{may_go, may_go_from, allowed, AreMarks}
 
 -- a page went to the store
 pub rooms_gone : (hidden : List ℕ) (old new : Memory) (v w : StoreView) (p f : ℕ) → IsSound old → FitsHidden old hidden → owner_at old.frames f ≡ Page p → is_hidden old.objects hidden p ≡ false → w.count ≡ v.count → w.page ≡ v.page → IsGone old new v w p f → MakesRoom hidden old new v w

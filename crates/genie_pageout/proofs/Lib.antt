@@ -1,3 +1,4 @@
 pub mod Evicted
 pub mod Gone
 pub mod Swept
+pub mod Rounds

@@ -1,5 +1,5 @@
 -- Frames that a sweep has looked at.
-use Rattle.std.proofs.Common.{◌≡◌, ◌≢◌, ℕ, ◌<◌, ◌≤◌, ◌+◌, ◌-◌, Bool, true, false, not, List, [], ◌∷◌, refl, arith, ap, length, get_or, sym, ◌∙◌, inl, inr, subst, suc, zero}
+use Rattle.std.proofs.Common.{◌≡◌, ℕ, ◌<◌, ◌≤◌, ◌+◌, ◌-◌, Bool, true, false, not, List, [], ◌∷◌, refl, arith, ap, length, get_or, sym, ◌∙◌, inl, inr, subst, suc, zero}
 use Rattle.std.specs.Prelude.{◌⊎◌, count_by, min, replicate}
 use Rattle.std.proofs.lemmas.List.Sums.{sum_by-cons}
 use Rattle.std.proofs.lemmas.Bool.{cases_lt}

@@ -1,2 +1,3 @@
 pub mod Evicting
 pub mod Going
+pub mod Rounds

@@ -1,5 +1,6 @@
 //! Where a search for frames begins.
-ghost use Rattle.std.specs.Prelude.{◌≡◌, ◌≤◌, ◌<◌, ◌⊎◌};
+ghost use Rattle.std.specs.Prelude.{◌≡◌, ◌≤◌};
+ghost use Rattle.genie_pageout.specs.Rounds.{start};
 
 use std::marker::Model;
 
@@ -29,7 +30,7 @@ impl Clock {
     // The frame that it is at, or the first one where there are fewer frames.
     pub(crate) fn place(&self, frames: u32) -> u32
         ensures within { result ≤ frames }
-        ensures place { (self.now < frames → result ≡ self.now) }
+        ensures place { result ≡ start frames self.now }
     {
         if self.place < frames { self.place } else { 0 }
     }

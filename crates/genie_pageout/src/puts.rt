@@ -9,6 +9,7 @@ ghost use Rattle.genie_hiding.specs.Hidden.{objects_of, has_hidden};
 ghost use Rattle.genie_hiding.specs.Marking.{is_marked};
 ghost use Rattle.genie_hiding.specs.Rooms.{MakesRoom, visible_pages};
 ghost use Rattle.genie_pageout.specs.Going.{allowed, may_go_from, AreGone, AreMarks, StayGone};
+ghost use Rattle.genie_pageout.specs.Rounds.{PutsOn, Passes};
 
 use crate::clock::Clock;
 use crate::evict::evict;
@@ -39,6 +40,7 @@ pub fn pageout<S: Store>(
     ensures puts { IfOk result (λ r. memory.new.frames.meters.puts ≡ memory.old.frames.meters.puts + r) }
     ensures room { MakesRoom (objects_of hidden.old) memory.old memory.new (S.view store.old) (S.view store.new) }
     ensures hidden { hidden.new ≡ hidden.old }
+    ensures clock { OnOk result (PutsOn (objects_of hidden.old) memory.old memory.new clock.old clock.new) }
     ensures cause { HasCause (S.view store.old).faults (S.view store.new).faults result }
     ensures meters { Spends 0 0 8192 0 memory.old.frames.meters memory.new.frames.meters }
 {
@@ -76,6 +78,7 @@ fn put_all<S: Store>(
     ensures number { IfOk result (λ r. r ≡ min n (allowed memory.old (objects_of hidden.now))) }
     ensures puts { IfOk result (λ r. memory.new.frames.meters.puts ≡ memory.old.frames.meters.puts + r) }
     ensures room { MakesRoom (objects_of hidden.now) memory.old memory.new (S.view store.old) (S.view store.new) }
+    ensures clock { OnOk result (PutsOn (objects_of hidden.now) memory.old memory.new clock.old clock.new) }
     ensures cause { HasCause (S.view store.old).faults (S.view store.new).faults result }
     ensures meters { Spends 0 0 8192 0 memory.old.frames.meters memory.new.frames.meters }
 {
@@ -118,6 +121,7 @@ fn put_range<S: Store>(
     ensures puts { IfOk result (λ r. memory.new.frames.meters.puts ≡ memory.old.frames.meters.puts + r) }
     ensures room { MakesRoom (objects_of hidden.now) memory.old memory.new (S.view store.old) (S.view store.new) }
     ensures cause { HasCause (S.view store.old).faults (S.view store.new).faults result }
+    ensures passes { IfOk result (λ r. Passes (may_go_from memory.new (objects_of hidden.now)) (n ≡ 0) (r ≡ n) memory.old memory.new from to clock.old clock.new) }
     ensures meters { Spends 0 0 4096 0 memory.old.frames.meters memory.new.frames.meters }
 {
     let mut done = 0;

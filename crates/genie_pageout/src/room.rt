@@ -7,6 +7,7 @@ ghost use Rattle.genie_object.specs.Sound.{IsSound, IsSized, FitsHidden};
 ghost use Rattle.genie_hiding.specs.Hidden.{objects_of};
 ghost use Rattle.genie_hiding.specs.Rooms.{MakesRoom, AllShed, can_leave, visible_pages, available};
 ghost use Rattle.genie_pageout.specs.Going.{AreSwept};
+ghost use Rattle.genie_pageout.specs.Rounds.{MovesOn, Passes, leaves_from};
 
 use crate::clock::Clock;
 use crate::evict::evict;
@@ -37,6 +38,7 @@ pub fn make_room<S: Store>(
     ensures first { (memory.new.frames.meters.puts ≡ memory.old.frames.meters.puts) ⊎ AllShed memory.new (objects_of hidden.old) }
     ensures room { MakesRoom (objects_of hidden.old) memory.old memory.new (S.view store.old) (S.view store.new) }
     ensures hidden { hidden.new ≡ hidden.old }
+    ensures clock { OnOk result (MovesOn memory.old memory.new clock.old clock.new) }
     ensures cause { HasCause (S.view store.old).faults (S.view store.new).faults result }
     ensures meters { Spends 0 0 8192 0 memory.old.frames.meters memory.new.frames.meters }
 {
@@ -67,6 +69,7 @@ fn sweep_all<S: Store>(
     requires meters { AreBelow (2 ^ 64 - 2 ^ 19) memory.old.frames.meters }
     ensures free { OnOk result (k ≤ count_by is_free memory.new.frames.owners) }
     ensures room { MakesRoom (objects_of hidden.now) memory.old memory.new (S.view store.old) (S.view store.new) }
+    ensures clock { OnOk result (MovesOn memory.old memory.new clock.old clock.new) }
     ensures cause { HasCause (S.view store.old).faults (S.view store.new).faults result }
     ensures meters { Spends 0 0 8192 0 memory.old.frames.meters memory.new.frames.meters }
 {
@@ -103,6 +106,7 @@ fn sweep<S: Store>(
     ensures room { MakesRoom (objects_of hidden.now) memory.old memory.new (S.view store.old) (S.view store.new) }
     ensures cause { HasCause (S.view store.old).faults (S.view store.new).faults result }
     ensures swept { OnOk result ((k ≤ count_by is_free memory.new.frames.owners) ⊎ AreSwept memory.new from to) }
+    ensures passes { OnOk result (Passes (leaves_from memory.new) (k ≤ count_by is_free memory.old.frames.owners) (k ≤ count_by is_free memory.new.frames.owners) memory.old memory.new from to clock.old clock.new) }
     ensures meters { Spends 0 0 4096 0 memory.old.frames.meters memory.new.frames.meters }
 {
     'frames: for f in from..to {

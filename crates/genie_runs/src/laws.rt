@@ -14,13 +14,16 @@ pub fn scripts_run_alike()
     laws::runs_alike();
 }
 
-/// Every state that a run reaches is orderly, its outputs keep integrity up to there, and so do bytes under weak transfers
+/// Every state that a run reaches is orderly; its outputs keep integrity up to there, and are sent whole but for those that
+/// wait; its devices have taken records of their input, which ready inputs have; and bytes under weak transfers are kept
 /// from there on.
 pub fn runs_are_sound()
     ensures { RunsAreSound }
 {
     runs_stay_orderly();
     laws::outputs_keep_integrity();
+    laws::outputs_are_sent_whole();
+    laws::inputs_get_records();
     laws::weak_transfers_keep_bytes();
     scripts_keep_limits();
 }

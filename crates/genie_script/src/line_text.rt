@@ -13,7 +13,8 @@ use genie_base::{Event, Semantics};
 
 fn put_device(out: &mut LineBuffer, device: &DeviceLine)
     requires { out.old ≡ [] }
-    ensures { out.new ≡ spaced (device_words device.now) }
+    ensures text { out.new ≡ spaced (device_words device.now) }
+    ensures most { length out.new ≤ 8300 }
 {
     put_numbers(out, b"device", &[device.number]);
     put_word(out, kind_text(device.kind));
@@ -38,7 +39,8 @@ fn put_route(out: &mut LineBuffer, word: &[u8], route: &Route)
 
 fn put_output(out: &mut LineBuffer, route: &Route, addr: u32, len: u32)
     requires { out.old ≡ [] }
-    ensures { out.new ≡ spaced (route_words (codes "out") route.now ++ decimal addr ∷ decimal len ∷ []) }
+    ensures text { out.new ≡ spaced (route_words (codes "out") route.now ++ decimal addr ∷ decimal len ∷ []) }
+    ensures most { length out.new ≤ 8300 }
 {
     put_route(out, b"out", route);
     put_number(out, addr);
@@ -47,7 +49,8 @@ fn put_output(out: &mut LineBuffer, route: &Route, addr: u32, len: u32)
 
 fn put_input(out: &mut LineBuffer, route: &Route, addr: Option<u32>, len: u32)
     requires { out.old ≡ [] }
-    ensures { out.new ≡ spaced (route_words (codes "in") route.now ++ addr_text addr ∷ decimal len ∷ []) }
+    ensures text { out.new ≡ spaced (route_words (codes "in") route.now ++ addr_text addr ∷ decimal len ∷ []) }
+    ensures most { length out.new ≤ 8300 }
 {
     put_route(out, b"in", route);
     match addr {
@@ -59,7 +62,8 @@ fn put_input(out: &mut LineBuffer, route: &Route, addr: Option<u32>, len: u32)
 
 fn put_protect(out: &mut LineBuffer, pid: u32, page: u32, writable: bool)
     requires { out.old ≡ [] }
-    ensures { out.new ≡ spaced (codes "protect" ∷ decimal pid ∷ decimal page ∷ mode_text writable ∷ []) }
+    ensures text { out.new ≡ spaced (codes "protect" ∷ decimal pid ∷ decimal page ∷ mode_text writable ∷ []) }
+    ensures most { length out.new ≤ 8300 }
 {
     put_numbers(out, b"protect", &[pid, page]);
     if writable {
@@ -72,7 +76,8 @@ fn put_protect(out: &mut LineBuffer, pid: u32, page: u32, writable: bool)
 fn put_write(out: &mut LineBuffer, pid: u32, addr: u32, bytes: &[u8])
     requires empty { out.old ≡ [] }
     requires most { length bytes.now ≤ 4096 }
-    ensures { out.new ≡ spaced (codes "write" ∷ decimal pid ∷ decimal addr ∷ hex_text bytes.now ∷ []) }
+    ensures text { out.new ≡ spaced (codes "write" ∷ decimal pid ∷ decimal addr ∷ hex_text bytes.now ∷ []) }
+    ensures most { length out.new ≤ 8300 }
 {
     put_numbers(out, b"write", &[pid, addr]);
     put_hex(out, bytes);
@@ -94,7 +99,8 @@ fn route(pid: u32, sem: Semantics, dev: u32, port: u16, flow: Option<u32>) -> Ro
 #[tactic(auto, unfolding(crate::specs::Spelling::event_words))]
 fn put_event(out: &mut LineBuffer, event: &Event)
     requires { out.old ≡ [] }
-    ensures { out.new ≡ spaced (event_words event.now) }
+    ensures text { out.new ≡ spaced (event_words event.now) }
+    ensures most { length out.new ≤ 8300 }
 {
     match event {
         Event::Spawn { pid } => put_numbers(out, b"spawn", &[*pid]),
@@ -142,7 +148,9 @@ pub fn put_line(line: &Line, out: &mut LineBuffer)
     requires empty { out.old ≡ [] }
     // An input has an address exactly where the application allocates its buffer, and a write has a byte.
     requires whole { is_whole_line line.now ≡ true }
-    ensures { out.new ≡ line_text line.now }
+    ensures text { out.new ≡ line_text line.now }
+    // So a script may have it.
+    ensures most { length out.new ≤ 8300 }
 {
     match line {
         Line::Blank => {}

@@ -21,15 +21,22 @@ front (x ∷ xs) h ys (suc i) lt = front xs h ys i (omega arith)
 size_least : (a b : ℕ) → 8 ≤ header_size a b
 size_least a b = cond_both ((a == 71) && (b == 69)) 12 8 (λ n. 8 ≤ n) (λ _. omega arith) (λ _. omega arith)
 
+-- a whole header tells its size as the bytes do that follow
+pub whole_size : (n : ℕ) (gathered rest : List ℕ) → is_whole_header (gathered ++ take (header_taken n gathered rest) rest) ≡ true → size_of_header (gathered ++ take (header_taken n gathered rest) rest) ≡ size_of_header (gathered ++ rest)
+whole_size n gathered rest whole =
+    let h : ℕ = header_taken n gathered rest in
+    let header : List ℕ = gathered ++ take h rest in
+    let enough = leb-true (size_of_header header) (length header) whole in
+    let least = size_least (slice_index header 0) (slice_index header 1) in
+    ap₂ header_size (front gathered h rest 0 (omega arith)) (front gathered h rest 1 (omega arith))
+
 -- a step that makes the header whole takes as many bytes of it as one with a budget for all that is left
 pub whole_taken : (n : ℕ) (gathered rest : List ℕ) → is_whole_header (gathered ++ take (header_taken n gathered rest) rest) ≡ true → header_taken (length rest) gathered rest ≡ header_taken n gathered rest
 whole_taken n gathered rest whole =
     let h : ℕ = header_taken n gathered rest in
     let header : List ℕ = gathered ++ take h rest in
     let enough = leb-true (size_of_header header) (length header) whole in
-    let least = size_least (slice_index header 0) (slice_index header 1) in
-    let size : size_of_header header ≡ size_of_header (gathered ++ rest) = ap₂ header_size (front gathered h rest 0 (omega arith)) (front gathered h rest 1 (omega arith)) in
-    omega (arith, enough, size, length-append gathered (take h rest), length-take h rest)
+    omega (arith, enough, whole_size n gathered rest whole, length-append gathered (take h rest), length-take h rest)
 
 -- behind them the payload begins
 pub behind_header : (n : ℕ) (gathered rest : List ℕ) (i : ℕ) → is_whole_header (gathered ++ take (header_taken n gathered rest) rest) ≡ true → part i 1 (drop (header_taken n gathered rest) rest) ≡ part (header_taken (length rest) gathered rest + (0 + i)) 1 rest

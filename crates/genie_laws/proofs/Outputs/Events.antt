@@ -130,6 +130,7 @@ input_goes d s p class to addr n meets =
 -- an output, as it is accepted
 abbrev call : State → Class → Address → ℕ → ℕ → Option Region → List State → Accepted
 call s class to a n reached later = record {
+  number = s.next;
   class = class;
   header = header_bytes to.port to.flow n;
   len = n;
@@ -149,11 +150,11 @@ module _ (s : State) (p : ℕ) (to : Address) (a n : ℕ) (r : Region) where
   abbrev new : Class → Transfer
   new class = plain (output_of s p class to a n (Some r))
 
-  is_call : (class : Class) (later : List State) → IsCall (new class) later (call s class to a n (Some r) later)
-  is_call Copy later = record { header = refl; payload = λ q h. h }
-  is_call Share later = record { header = refl; payload = λ q h. was_there (new Share) (call s Share to a n (Some r) later) q refl refl refl refl refl h }
-  is_call Move later = record { header = refl; payload = λ q h. h }
-  is_call WeakMove later = record { header = refl; payload = λ q h. was_there (new WeakMove) (call s WeakMove to a n (Some r) later) q refl refl refl refl refl h }
+  is_call : place_in s r a + n ≤ length r.bytes → (class : Class) (later : List State) → IsCall (new class) later (call s class to a n (Some r) later)
+  is_call within Copy later = record { number = refl; len = refl; long = length-take-le n (drop (place_in s r a) r.bytes) (omega (arith, within, length-drop (place_in s r a) r.bytes)); header = refl; payload = λ q h. h }
+  is_call within Share later = record { number = refl; len = refl; long = tt; header = refl; payload = λ q h. was_there (new Share) (call s Share to a n (Some r) later) q refl refl refl refl refl h }
+  is_call within Move later = record { number = refl; len = refl; long = length-take-le n (drop (place_in s r a) r.bytes) (omega (arith, within, length-drop (place_in s r a) r.bytes)); header = refl; payload = λ q h. h }
+  is_call within WeakMove later = record { number = refl; len = refl; long = tt; header = refl; payload = λ q h. was_there (new WeakMove) (call s WeakMove to a n (Some r) later) q refl refl refl refl refl h }
 
   new_bytes : (class : Class) → place_in s r a + n ≤ length r.bytes → HasBytes (new class) class
   new_bytes Copy within = length-take-le n (drop (place_in s r a) r.bytes) (omega (arith, within, length-drop (place_in s r a) r.bytes))
@@ -170,7 +171,7 @@ output_goes d s p class to a n (Some r) orderly meets e here =
     let outputs : List State → List Accepted = λ later. if to.device == d then call s class to a n (Some r) later ∷ [] else [] in
     like d s meets u (give_up u class (Some r)) outputs (given_up_like u class (Some r)) (goes d s meets u outputs (omega arith) refl (λ q m configs h. h) (⊎_elim
     (λ (mine : (to.device == d) ≡ true).
-    called (new s p to a n r class) (call s class to a n (Some r)) (record { moved = omega arith; staged = omega arith; bytes = new_bytes s p to a n r class (reached s p a n r orderly.regions e).within }) refl refl (is_call s p to a n r class)
+    called (new s p to a n r class) (call s class to a n (Some r)) (record { moved = omega arith; staged = omega arith; bytes = new_bytes s p to a n r class (reached s p a n r orderly.regions e).within }) refl refl (is_call s p to a n r (reached s p a n r orderly.regions e).within class)
     (queue-append d s.transfers (t ∷ []) ∙ ap (λ l. queue d s.transfers ++ l) (cond-true (to.device == d) (plain t ∷ []) [] mine)) refl (λ later. cond-true (to.device == d) _ _ mine))
     (λ (other : (to.device == d) ≡ false).
     still (queue-append d s.transfers (t ∷ []) ∙ ap (λ l. queue d s.transfers ++ l) (cond-false (to.device == d) (plain t ∷ []) [] other) ∙ append-nil (queue d s.transfers)) refl (λ later. cond-false (to.device == d) _ _ other))

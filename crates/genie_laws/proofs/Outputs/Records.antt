@@ -87,8 +87,18 @@ pub record Leaves (q : List Transfer) (sent : List ℕ) (later : List State) (os
   pub left : List ℕ
   pub front : sent ++ drop (begun q) (waiting q kept ++ records os payloads) ≡ all ++ left
 
+-- the bytes of a strong one's range are as many as the call says
+abbrev pub HasLength : Accepted → Class → Type 0
+HasLength o Copy = length o.bytes ≡ o.len
+HasLength o Share = ⊤
+HasLength o Move = length o.bytes ≡ o.len
+HasLength o WeakMove = ⊤
+
 -- the accepted output of a new transfer
 pub record IsCall (t : Transfer) (later : List State) (o : Accepted) : Type 0 where
+  pub number : o.number ≡ t.number
+  pub len : o.len ≡ t.len
+  pub long : HasLength o o.class
   pub header : o.header ≡ header_bytes t.port t.flow t.len
   pub payload : (p : List ℕ) → IsLeft t later t.class p → HasPayload o.class o p
 
@@ -134,7 +144,7 @@ split later (u ∷ q) t (p ∷ kept) h =
     let rest = split later q t kept h.1 in
     record { front = p ∷ rest.front; last = rest.last; are = (h.0, rest.are); is = rest.is; whole = ap (λ l. record_of u p ++ l) rest.whole ∙ sym (append_assoc (record_of u p) (waiting q rest.front) (record_of t rest.last)) }
 
-begun_more : (q : List Transfer) (t : Transfer) → t.moved ≡ 0 → begun (q ++ t ∷ []) ≡ begun q
+pub begun_more : (q : List Transfer) (t : Transfer) → t.moved ≡ 0 → begun (q ++ t ∷ []) ≡ begun q
 begun_more [] t e = e
 begun_more (u ∷ q) t e = refl
 
@@ -216,7 +226,7 @@ Sends s t bytes Share = IsSentFrom s t bytes
 Sends s t bytes Move = bytes ≡ t.payload
 Sends s t bytes WeakMove = IsSentFrom s t bytes
 
-sends_whole : (s : State) (t : Transfer) (bytes : List ℕ) (class : Class) → HasBytes t class → Sends s t bytes class → length bytes ≡ t.len
+pub sends_whole : (s : State) (t : Transfer) (bytes : List ℕ) (class : Class) → HasBytes t class → Sends s t bytes class → length bytes ≡ t.len
 sends_whole s t bytes Copy has is = ap length is ∙ has
 sends_whole s t bytes Share has is = is.whole
 sends_whole s t bytes Move has is = ap length is ∙ has
@@ -248,7 +258,7 @@ some_sent xs ys rest m k l h =
 all_sent : (xs rest : List ℕ) (m k : ℕ) → m ≤ length xs → length xs ≤ m + k → part m k xs ++ rest ≡ drop m (xs ++ rest)
 all_sent xs rest m k l h = let short : length (drop m xs) ≤ k = omega (arith, length-drop m xs) in ap (λ l. l ++ rest) (take_all k (drop m xs) short) ∙ sym (drop-append-le m xs rest l)
 
-header_length : (port : ℕ) (flow : Option ℕ) (len : ℕ) → length (header_bytes port flow len) ≡ header_len flow
+pub header_length : (port : ℕ) (flow : Option ℕ) (len : ℕ) → length (header_bytes port flow len) ≡ header_len flow
 header_length port None len = refl
 header_length port (Some flow) len = refl
 
@@ -332,7 +342,7 @@ module _ (s : State) (t : Transfer) (later : List State) (k : ℕ) (bytes : List
                 ∙ sym (append_assoc sent (part t.moved k xs) _) ∙ front;
           }
 
-begun_none : (rest : List Transfer) → AreUnsent rest → begun rest ≡ 0
+pub begun_none : (rest : List Transfer) → AreUnsent rest → begun rest ≡ 0
 begun_none [] h = refl
 begun_none (t ∷ rest) h = h.1
 

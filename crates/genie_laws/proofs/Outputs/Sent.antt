@@ -36,13 +36,13 @@ run_leaves stay d s [] (r ∷ rs) last o w meets whole h = absurd h
 run_leaves stay d s (e ∷ es) [] last o w meets whole h = absurd h
 
 -- at first nothing is sent, and no datagram is there
-boot_meets : (inputs : ℕ → List ℕ) (configs : List (Option DeviceConfig)) (from dev : ℕ) → OnDevice [] 1 (has_output (entry configs dev)) (entry (boot_devices inputs from configs) dev)
+pub boot_meets : (inputs : ℕ → List ℕ) (configs : List (Option DeviceConfig)) (from dev : ℕ) → OnDevice [] 1 (has_output (entry configs dev)) (entry (boot_devices inputs from configs) dev)
 boot_meets inputs [] from dev = refl
 boot_meets inputs (None ∷ configs) from zero = refl
 boot_meets inputs (Some c ∷ configs) from zero = tt
 boot_meets inputs (c ∷ configs) from (suc dev) = boot_meets inputs configs (from + 1) dev
 
-boot_sent : (inputs : ℕ → List ℕ) (configs : List (Option DeviceConfig)) (from d : ℕ) → sent_by (entry (boot_devices inputs from configs) d) ≡ []
+pub boot_sent : (inputs : ℕ → List ℕ) (configs : List (Option DeviceConfig)) (from d : ℕ) → sent_by (entry (boot_devices inputs from configs) d) ≡ []
 boot_sent inputs [] from d = refl
 boot_sent inputs (None ∷ configs) from zero = refl
 boot_sent inputs (Some c ∷ configs) from zero = refl

@@ -117,7 +117,7 @@ owners_unseen t owners slots Zero = refl
 owners_unseen t owners slots (Frame g) = refl
 owners_unseen t owners slots (Slot s) = refl
 
-unowned_system : (c : Counts) → system_owner (unowned c) ≡ Free
+pub unowned_system : (c : Counts) → system_owner (unowned c) ≡ Free
 unowned_system c = elim (is_lent c) as (λ b. system_owner (if b then Nobody else Free) ≡ Free) [ true ↦ refl | false ↦ refl ]
 
 module _ (m : Memory) (p : ℕ) (to : Place) (x : CanGo m p to) where

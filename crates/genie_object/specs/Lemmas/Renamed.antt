@@ -58,7 +58,7 @@ pub left_most : (t : PageTable) (page : Option PageId) → (left_pages t page).m
 left_most t None = refl
 left_most t (Some p) = refl
 
-count_left : (t : PageTable) (page : Option PageId) → ((p : PageId) → page ≡ Some p → 1 < (page_at t.pages p.0).shares) → ((p : PageId) → page ≡ Some p → p.0 < length t.pages) → count_by is_there (left_pages t page).pages ≡ count_by is_there t.pages
+pub count_left : (t : PageTable) (page : Option PageId) → ((p : PageId) → page ≡ Some p → 1 < (page_at t.pages p.0).shares) → ((p : PageId) → page ≡ Some p → p.0 < length t.pages) → count_by is_there (left_pages t page).pages ≡ count_by is_there t.pages
 count_left t None many there = refl
 count_left t (Some p) many there =
     let h = many p refl in

@@ -1,5 +1,5 @@
 -- What one call after another leaves as it was.
-use Rattle.std.proofs.Common.{◌≡◌, ℕ, ◌<◌, ◌≤◌, Bool, true, false, refl, ap, arith, sym, ◌∙◌, inl, inr, length, subst}
+use Rattle.std.proofs.Common.{◌≡◌, ℕ, ◌<◌, Bool, true, false, refl, ap, arith, sym, ◌∙◌, inl, inr, length, subst}
 use Rattle.std.specs.Prelude.{◌==◌, None, Some}
 use Rattle.genie_base.specs.Lemmas.Places.{set_at}
 use Rattle.genie_frame.specs.declared.frame.Counts.{Counts}

@@ -25,7 +25,8 @@ use Rattle.genie_model.specs.Lemmas.ReceiveSteps.{choice}
 use Rattle.genie_model.specs.Lemmas.Lists.{entry_set, has_at, all_has, find_has, entry_same}
 use Rattle.genie_model.specs.Lemmas.SendQueues.{same_number}
 use Rattle.genie_model.specs.Lemmas.PendingCalls.{KeepsCall, change_remain, remain_order}
-use Rattle.genie_orderly.proofs.Transfers.Changes.{all_numbered, pairs_change}
+use Rattle.genie_orderly.specs.Lemmas.ChangedTransfers.{all_numbered}
+use Rattle.genie_orderly.proofs.Transfers.Changes.{pairs_change}
 use Rattle.genie_orderly.proofs.Transfers.Counts.{count_changed, count_less}
 use Rattle.genie_base.specs.declared.reply.Reply.TheVariants as reply
 

@@ -1,6 +1,6 @@
 -- What is so of the pending transfers and of what devices receive, after every step.
 use Rattle.std.proofs.Common.{◌≡◌, ℕ, Bool, ◌+◌, ◌≤◌, true, false, List, [], ◌∷◌, ◌++◌, ◌∙◌, AllPairs, get_or, eqb-true, eq-eqb, map, filter, All, refl, sym, subst, true≢false, arith, ap, slice_set, count_by}
-use Rattle.std.specs.Prelude.{Option, Some, None, IfSome, IsTrue, option_and_then, ◌&&◌, not, ◌==◌, if◌then◌else◌}
+use Rattle.std.specs.Prelude.{Option, Some, None, IfSome, IsTrue, ◌&&◌, not, ◌==◌, if◌then◌else◌}
 use Rattle.std.proofs.lemmas.Bool.{cond_both, and_parts, and_from, false_from_ne_true}
 use Rattle.std.proofs.lemmas.List.Elements.{All-map, All-filter, All-push, All-weaker}
 use Rattle.genie_base.specs.Posted.{Address}
@@ -12,8 +12,10 @@ use Rattle.genie_base.specs.declared.semantics.Class.TheVariants.{Copy, Share, M
 use Rattle.genie_model.specs.declared.fate.Fate.{Fate}
 use Rattle.genie_model.specs.declared.fate.Fate.TheVariants.{Matched, Skipped, Gathering}
 use Rattle.genie_model.specs.declared.phase.Phase.TheVariants.{Queued, Posted, Moving, Ready}
-use Rattle.genie_orderly.specs.Orderly.{has_phase, IsTransfer, AreTransfers, WaitsBehind, OneIsSent, matched_to, receives_for, MovingAreReceived, ReceivedAreMoving, SuitsDevice, DatagramsSuit, KeepsDepth, DepthsAreKept, PostedAreInputs, IsInput, GoesToInput, IsUnderWay, ReceivesForInput, MatchedAreInputs, IsOrderly}
-use Rattle.genie_orderly.proofs.Transfers.Changes.{all_passing, pairs_first, pairs_without}
+use Rattle.genie_orderly.specs.Orderly.{has_phase, IsTransfer, AreTransfers, WaitsBehind, OneIsSent, receives_for, MovingAreReceived, ReceivedAreMoving, SuitsDevice, DatagramsSuit, KeepsDepth, DepthsAreKept, PostedAreInputs, IsInput, GoesToInput, IsUnderWay, ReceivesForInput, MatchedAreInputs, IsOrderly}
+use Rattle.genie_orderly.specs.Lemmas.ChangedTransfers.{all_passing}
+use Rattle.genie_orderly.specs.Lemmas.Receivers.{received_input}
+use Rattle.genie_orderly.proofs.Transfers.Changes.{pairs_first, pairs_without}
 use Rattle.genie_base.specs.Lemmas.Searches.{pairs_mapped}
 use Rattle.genie_model.specs.State.{State, Region, Transfer, Device, Datagram}
 use Rattle.genie_model.specs.Tables.{entry, change, without}
@@ -71,20 +73,6 @@ later_device s t d (Some v) h goes = later v.present goes
     later : (o : Option Datagram) → IfSome o (IsUnderWay s d) → IfSome o (IsUnderWay t d)
     later None under = tt
     later (Some g) under = record { left = under.left; input = later_fate s t d g.fate h under.input }
-
--- a device receives for an input alone
-received_input : (s : State) (d : ℕ) (v : Option Device) (k : ℕ) → ReceivesForInput s d v → receives_for v ≡ Some k → IsInput s d k
-received_input s d None k goes e = absurd (cc)
-received_input s d (Some v) k goes e = of_datagram v.present goes e
-  where
-    of_fate : (fate : Fate) → GoesToInput s d fate → matched_to fate ≡ Some k → IsInput s d k
-    of_fate Skipped goes e = absurd (cc)
-    of_fate (Matched n) goes e = let same : n ≡ k = cc in subst (IsInput s d) same goes
-    of_fate Gathering goes e = absurd (cc)
-
-    of_datagram : (o : Option Datagram) → IfSome o (IsUnderWay s d) → option_and_then (λ (g : Datagram). matched_to g.fate) o ≡ Some k → IsInput s d k
-    of_datagram None under e = absurd (cc)
-    of_datagram (Some g) under e = of_fate g.fate under.input e
 
 begins : (s : State) → IsOrderly s → Lasts s s
 begins s o = record { config = refl; least = omega arith; transfers = λ i d lt. record { posted = o.posted i d lt; input = λ e is. is.1 i d lt refl; call = o.calls i d lt }; queues = o.queues; moving = o.moving; received = o.received; goes = o.matched; suits = o.datagrams; depths = o.depths }

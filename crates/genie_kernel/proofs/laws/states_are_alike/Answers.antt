@@ -1,4 +1,4 @@
-use Rattle.genie_kernel.proofs.Alike.{lent_suffice}
+use Rattle.genie_kernel.specs.Lemmas.Alike.{lent_suffice}
 use Rattle.genie_kernel.proofs.laws.states_are_alike.Goals as goal
 
 pub returns-clause-lent : goal.returns-clause-lent

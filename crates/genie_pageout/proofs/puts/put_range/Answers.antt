@@ -3,6 +3,7 @@ use Rattle.genie_object.specs.Lemmas.Spending.{spends_more, spends_on}
 use Rattle.genie_hiding.specs.Hidden.{objects_of}
 use Rattle.genie_hiding.specs.Lemmas.Making.{rooms_on}
 use Rattle.genie_pageout.proofs.Swept.{gone_more}
+use Rattle.genie_pageout.proofs.Rounds.{set_on}
 use Rattle.genie_pageout.proofs.puts.put_range.Goals as goal
 
 pub returns-in-Err-clause-room : goal.returns-in-Err-clause-room
@@ -22,6 +23,10 @@ frames-preserved g c =
       here = gone_more (objects_of c.args.hidden.now) _ _ _ _ v.here e.gone e.here;
       gone = λ f h. e.gone f (v.gone f h);
       puts = omega (arith, v.puts, e.puts);
+      clock = c.set.ensures ∙ set_on _ _ _ v.order;
+      order = omega (arith, v.order);
+      idle = λ l. absurd (omega (arith, l, c.if-done-n.false, v.few));
+      since = omega (arith, v.since, e.small);
       meters = spends_on _ _ _ _ _ _ _ _ _ _ _ v.meters e.meters;
     }
 

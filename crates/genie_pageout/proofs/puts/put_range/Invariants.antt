@@ -1,4 +1,5 @@
 use Rattle.std.proofs.Common.{◌≡◌, ◌≤◌, ◌+◌}
+use Rattle.std.specs.Prelude.{nat_lt, if◌then◌else◌}
 use Rattle.genie_object.specs.Costs.{Spends}
 use Rattle.genie_hiding.specs.Hidden.{objects_of}
 use Rattle.genie_hiding.specs.Rooms.{MakesRoom}
@@ -16,5 +17,9 @@ invariant-frames g l = record {
   here : AreGone l.memory (objects_of l.hidden) l.from l.f;
   gone : StayGone (objects_of l.hidden) l.fn.memory l.memory;
   puts : l.memory.frames.meters.puts ≡ l.fn.memory.frames.meters.puts + l.done;
+  clock : l.clock ≡ (if nat_lt l.from l.f then l.f else l.fn.clock);
+  order : l.from ≤ l.f;
+  idle : l.n ≡ 0 → l.f ≡ l.from;
+  since : l.done + l.from ≤ l.f;
   meters : Spends 0 0 l.f 0 l.fn.memory.frames.meters l.memory.frames.meters;
 }

@@ -1,7 +1,5 @@
-use Rattle.std.proofs.Common.{◌≡◌}
-use Rattle.std.specs.Prelude.{false}
-use Rattle.genie_hiding.specs.Hidden.{objects_of, is_hidden}
-use Rattle.genie_pageout.proofs.Gone.{rooms_gone, rooms_left, one_fewer, gone_here, gone_still, held_stays, marked_stays, unmarked, slot_free, marks_gone}
+use Rattle.genie_hiding.specs.Hidden.{objects_of}
+use Rattle.genie_pageout.proofs.Gone.{rooms_gone, rooms_left, one_fewer, gone_here, gone_still, unmarked, slot_free, marks_gone}
 use Rattle.genie_pageout.proofs.puts.put_visible.Goals as goal
 
 pub evict-requires-clause-slots : goal.evict-requires-clause-slots

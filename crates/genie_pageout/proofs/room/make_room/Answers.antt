@@ -1,9 +1,5 @@
-use Rattle.std.proofs.Common.{ℕ, ◌≤◌, arith, inl, inr}
-use Rattle.std.specs.Prelude.{◌⊎◌, count_by}
-use Rattle.genie_frame.specs.FrameTable.{is_free}
-use Rattle.genie_object.specs.declared.memory.Memory.{Memory}
+use Rattle.std.proofs.Common.{arith, inr}
 use Rattle.genie_hiding.specs.Hidden.{objects_of}
-use Rattle.genie_hiding.specs.Rooms.{AllShed}
 use Rattle.genie_hiding.specs.Lemmas.Making.{rooms_on, all_kept, no_store}
 use Rattle.genie_pageout.proofs.Swept.{all_shed_now}
 use Rattle.genie_pageout.proofs.room.make_room.Goals as goal

@@ -3,6 +3,7 @@ use Rattle.genie_object.specs.Lemmas.Spending.{spends_more, spends_on}
 use Rattle.genie_hiding.specs.Hidden.{objects_of}
 use Rattle.genie_hiding.specs.Lemmas.Making.{rooms_on, all_kept}
 use Rattle.genie_pageout.proofs.Swept.{swept_more}
+use Rattle.genie_pageout.proofs.Rounds.{set_on}
 use Rattle.genie_pageout.proofs.room.sweep.Goals as goal
 
 pub returns-in-Err-clause-room : goal.returns-in-Err-clause-room
@@ -17,6 +18,10 @@ frames-preserved g c =
       shed = all_kept (objects_of c.args.hidden.now) c.frames.memory c.visit.new.memory e.room.sweeps e.room.counts v.shed;
       faults = e.cause.kept ∙ v.faults;
       swept = swept_more _ _ _ _ v.swept e.room.sweeps e.room.counts e.gone;
+      clock = c.set.ensures ∙ set_on _ _ _ v.order;
+      order = omega (arith, v.order);
+      idle = λ l. absurd (omega (arith, l, v.room.sweeps.free, c.if-free-k.false, c.free.ensures));
+      puts = omega (arith, v.puts, e.meters.most_puts);
       meters = spends_on _ _ _ _ _ _ _ _ _ _ _ v.meters e.meters;
     }
 

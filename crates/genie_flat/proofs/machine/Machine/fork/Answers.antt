@@ -3,7 +3,7 @@ use Rattle.genie_model.specs.State.{State}
 use Rattle.genie_model.specs.Regions.{regions_at}
 use Rattle.genie_model.specs.Space.{spawned, accessible, add_copies}
 use Rattle.genie_flat.proofs.Copies.{copies_live}
-use Rattle.genie_flat.proofs.Succeeding.{on_ok}
+use Rattle.genie_tables.specs.Lemmas.Succeeding.{on_ok}
 use Rattle.genie_flat.proofs.machine.Machine.fork.Goals as goal
 
 pub returns : goal.returns

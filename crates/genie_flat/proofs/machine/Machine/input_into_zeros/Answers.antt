@@ -5,8 +5,8 @@ use Rattle.genie_model.specs.Regions.{fresh}
 use Rattle.genie_model.specs.Pending.{add_transfer}
 use Rattle.genie_model.specs.Space.{zeros_at_place, add_region}
 use Rattle.genie_model.specs.Inputs.{input_of, pages_for}
-use Rattle.genie_flat.specs.Targets.{address_of}
-use Rattle.genie_flat.proofs.Succeeding.{on_ok}
+use Rattle.genie_tables.specs.Targets.{address_of}
+use Rattle.genie_tables.specs.Lemmas.Succeeding.{on_ok}
 use Rattle.genie_flat.proofs.machine.Machine.input_into_zeros.Goals as goal
 
 pub returns : goal.returns

@@ -1,11 +1,11 @@
 -- The header is matched.
-use Rattle.std.proofs.Common.{◌≡◌, List, ℕ, refl, sym, ap, ◌∙◌}
-use Rattle.std.specs.Prelude.{Option, Some}
+use Rattle.std.proofs.Common.{◌≡◌, List, ℕ, refl, sym, ◌∙◌}
+use Rattle.std.specs.Prelude.{Some}
 use Rattle.genie_base.specs.Headers.{port_in, flow_in}
-use Rattle.genie_model.specs.State.{State, Datagram}
+use Rattle.genie_model.specs.State.{State}
 use Rattle.genie_model.specs.Pending.{first_posted}
 use Rattle.genie_model.specs.Receiving.{match_header, receive_payload}
-use Rattle.genie_flat.proofs.Succeeding.{if_ok}
+use Rattle.genie_tables.specs.Lemmas.Succeeding.{if_ok}
 use Rattle.genie_flat.proofs.machine.Machine.match_header.Goals as goal
 
 pub returns-in-Some : goal.returns-in-Some

@@ -7,7 +7,7 @@ use Rattle.genie_model.specs.State.{State, Region, Orphan}
 use Rattle.genie_model.specs.Regions.{reach_of}
 use Rattle.genie_model.specs.Space.{as_orphan, remove}
 use Rattle.genie_model.specs.Outputs.{give_up}
-use Rattle.genie_flat.proofs.Succeeding.{on_ok}
+use Rattle.genie_tables.specs.Lemmas.Succeeding.{on_ok}
 use Rattle.genie_flat.proofs.machine.Machine.output_move.Goals as goal
 
 removed : {T : Type 0} (t new : State) (o : Option Region) (orphan : Orphan) (result : Result T NoMemory) → Some orphan ≡ option_map as_orphan o → ((r : Region) → as_orphan r ≡ orphan → OnOk result (new ≡ remove t r)) → OnOk result (new ≡ give_up t Move o)

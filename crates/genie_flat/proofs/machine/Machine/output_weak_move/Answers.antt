@@ -4,8 +4,8 @@ use Rattle.genie_model.specs.State.{State}
 use Rattle.genie_model.specs.Regions.{reach_of}
 use Rattle.genie_model.specs.Pending.{add_transfer}
 use Rattle.genie_model.specs.Outputs.{output_of, moved_out, give_up}
-use Rattle.genie_flat.specs.Targets.{address_of}
-use Rattle.genie_flat.proofs.Succeeding.{on_ok}
+use Rattle.genie_tables.specs.Targets.{address_of}
+use Rattle.genie_tables.specs.Lemmas.Succeeding.{on_ok}
 use Rattle.genie_flat.proofs.machine.Machine.output_weak_move.Goals as goal
 
 pub returns : goal.returns

@@ -1,7 +1,7 @@
 use Rattle.std.proofs.Common.{◌≡◌, List, ℕ, ◌+◌, take, drop, refl, ap, ◌∙◌}
 use Rattle.genie_model.specs.State.{State, Device, Datagram}
 use Rattle.genie_model.specs.Receiving.{land, after_bytes, go_on, take_payload}
-use Rattle.genie_flat.proofs.Succeeding.{if_ok}
+use Rattle.genie_tables.specs.Lemmas.Succeeding.{if_ok}
 use Rattle.genie_flat.proofs.machine.Machine.take_payload.Goals as goal
 
 pub returns : goal.returns

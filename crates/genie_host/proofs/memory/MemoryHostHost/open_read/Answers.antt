@@ -1,5 +1,5 @@
 use Rattle.std.proofs.Common.{refl}
-use Rattle.genie_host.proofs.Tables.{opens_grown}
+use Rattle.genie_host.specs.Lemmas.Tables.{opens_grown}
 use Rattle.genie_host.proofs.MemorySteps.{told_found}
 use Rattle.genie_host.proofs.memory.MemoryHostHost.open_read.Goals as goal
 

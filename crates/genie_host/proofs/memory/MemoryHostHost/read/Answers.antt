@@ -1,5 +1,5 @@
 use Rattle.std.proofs.Common.{◌<◌, ◌-◌, refl, rules}
-use Rattle.genie_host.proofs.Tables.{reads_set, open_within, got}
+use Rattle.genie_host.specs.Lemmas.Tables.{reads_set, open_within, got}
 use Rattle.genie_host.specs.declared.opened.Opened.TheVariants as opened
 use Rattle.genie_host.proofs.memory.MemoryHostHost.read.Goals as goal
 

@@ -1,5 +1,5 @@
 use Rattle.std.proofs.Common.{◌<◌, ◌-◌, refl, rules}
-use Rattle.genie_host.proofs.Tables.{writes_set, open_within, got}
+use Rattle.genie_host.specs.Lemmas.Tables.{writes_set, open_within, got}
 use Rattle.genie_host.specs.declared.opened.Opened.TheVariants as opened
 use Rattle.genie_host.proofs.memory.MemoryHostHost.write.Goals as goal
 

@@ -1,0 +1,12 @@
+pub mod Places
+pub mod Lying
+pub mod Left
+pub mod Gained
+pub mod Removed
+pub mod Ended
+pub mod Begun
+pub mod Counting
+pub mod Owning
+pub mod Beside
+pub mod Fewer
+pub mod Holding

@@ -1,0 +1,6 @@
+//! What the events join: a transfer more, one less, one changed; a region more, one less, one changed; orphans. Each on the
+//! state that a kernel stands for, and on the parts of what is true of it.
+#![tactic(auto)]
+
+pub mod parts;
+pub mod states;

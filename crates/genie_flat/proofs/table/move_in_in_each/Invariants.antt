@@ -1,8 +1,0 @@
-use Rattle.std.proofs.Common.{◌≡◌, ◌++◌, take, drop}
-use Rattle.std.specs.Prelude.{map}
-use Rattle.genie_model.specs.Regions.{change_process}
-use Rattle.genie_model.specs.Inputs.{moved_in_of}
-use Rattle.genie_flat.proofs.table.move_in_in_each.Given as goal
-
-abbrev pub invariant-loop-process : goal.invariant-loop-process
-invariant-loop-process l = l.processes ≡ map (change_process (moved_in_of l.number)) (take l.process-index l.fn.processes) ++ drop l.process-index l.fn.processes

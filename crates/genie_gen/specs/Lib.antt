@@ -1,0 +1,6 @@
+pub mod Draws
+pub mod GenView
+pub mod Rounds
+pub mod Sources
+pub mod Streams
+pub mod Tallies

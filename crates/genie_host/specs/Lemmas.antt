@@ -1,0 +1,2 @@
+-- Lemmas for the hosts of the crates above.
+pub mod Tables

@@ -1,0 +1,6 @@
+-- What devices take of their input.
+pub mod Events
+pub mod ReceiveSteps
+pub mod Records
+pub mod Runs
+pub mod Walks

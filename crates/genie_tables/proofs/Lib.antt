@@ -1,0 +1,4 @@
+pub mod ChangedInPlace
+pub mod Collected
+pub mod FirstPassing
+pub mod Placed

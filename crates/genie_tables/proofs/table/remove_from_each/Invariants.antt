@@ -1,0 +1,8 @@
+use Rattle.std.proofs.Common.{◌≡◌, ◌++◌, take, drop}
+use Rattle.std.specs.Prelude.{map}
+use Rattle.genie_model.specs.Regions.{change_process}
+use Rattle.genie_model.specs.Space.{without_region}
+use Rattle.genie_tables.proofs.table.remove_from_each.Given as goal
+
+abbrev pub invariant-loop-process : goal.invariant-loop-process
+invariant-loop-process l = l.processes ≡ map (change_process (without_region l.number)) (take l.process-index l.fn.processes) ++ drop l.process-index l.fn.processes

@@ -1,0 +1,21 @@
+//! The tables of the plain machine: processes with their regions, what is left of regions, pending transfers and
+//! devices, each buffer as one list of bytes.
+#![tactic(auto)]
+
+pub mod change;
+pub mod datagram;
+pub mod device;
+pub mod orphan;
+pub mod process;
+pub mod region;
+pub mod table;
+pub mod transfer;
+pub mod transfers;
+
+pub use crate::change::{Change, Turn};
+pub use crate::datagram::Datagram;
+pub use crate::device::Device;
+pub use crate::orphan::Orphan;
+pub use crate::process::Process;
+pub use crate::region::{Purpose, Region};
+pub use crate::transfer::{Call, Target, Transfer};
