@@ -1,5 +1,5 @@
 -- Transfers in order, over a slab.
-use Rattle.std.proofs.Common.{◌≡◌, ◌≢◌, ℕ, ◌<◌, ◌≤◌, ◌+◌, suc, true, false, List, [], ◌∷◌, ◌++◌, refl, arith, ap, length, map, get_or, sym, ◌∙◌, length-append, ⊎_elim}
+use Rattle.std.proofs.Common.{◌≡◌, ◌≢◌, ℕ, ◌<◌, ◌≤◌, ◌+◌, zero, suc, true, false, List, [], ◌∷◌, ◌++◌, refl, arith, ap, length, map, set, get_or, sym, ◌∙◌, length-append, ⊎_elim}
 use Rattle.std.specs.Prelude.{Some, None, unwrap_or, is_some}
 use Rattle.std.proofs.lemmas.List.{map-append}
 use Rattle.std.proofs.lemmas.List.Quantifiers.{all_pairs_push, all_pairs_remove}
@@ -9,7 +9,8 @@ use Rattle.std.specs.List.{remove}
 use Rattle.genie_base.specs.Lemmas.Places.{any_default}
 use Rattle.genie_kernel.specs.Lemmas.Searching.{map_removed}
 use Rattle.std.proofs.lemmas.List.Elements.{All-push}
-use Rattle.slab.specs.Slab.{Slab, get, slab_len, Updates}
+use Rattle.slab.specs.Slab.{Slab, get, slab_len, Updates, with_value}
+use Rattle.slab.proofs.SlabLemmas.{Updates-with_value}
 use Rattle.genie_kernel.specs.declared.transfer.Transfer.{Transfer}
 use Rattle.genie_kernel.specs.Order.{transfer_at, transfers_of, no_transfer, IsOrder}
 
@@ -73,3 +74,22 @@ module _ (old new : Slab Transfer) (order : List ℕ) (room at : ℕ) (s : IsOrd
         slots_room = let had = s.slots_room in omega (arith, had, capacity);
         order_room = let had = s.order_room in omega (arith, had, grown);
       }
+
+map_set : {X Y : Type 0} (f g : X → Y) (d : X) (xs : List X) (i : ℕ) (y : Y) → i < length xs → g (get_or xs i d) ≡ y → ((j : ℕ) → j < length xs → j ≢ i → g (get_or xs j d) ≡ f (get_or xs j d)) → map g xs ≡ set (map f xs) i y
+map_set f g d [] i y l here others = absurd (omega arith)
+map_set f g d (x ∷ xs) zero y l here others = λ i. here i ∷ map_same g f d xs (λ k m. others (suc k) (omega arith) (λ e. absurd (omega (arith, e)))) i
+map_set f g d (x ∷ xs) (suc n) y l here others = λ i. others 0 (omega arith) (λ e. absurd (omega (arith, e))) i ∷ map_set f g d xs n y (omega arith) here (λ j m ne. others (suc j) (omega arith) (λ e. ne (omega (arith, e)))) i
+
+-- two places of the order have different keys
+keys_differ : (slots : Slab Transfer) (order : List ℕ) (room i j : ℕ) → IsOrder slots order room → i < length order → j < length order → j ≢ i → get_or order j 0 ≢ get_or order i 0
+keys_differ slots order room i j s li lj ne e = ⊎_elim
+    (λ (low : j < i). s.apart j i 0 low li e)
+    (λ high. s.apart i j 0 (omega (arith, high, ne)) lj (sym e))
+    (cases_lt j i)
+
+pub transfers_changed : (slots : Slab Transfer) (order : List ℕ) (room i : ℕ) (t : Transfer) → IsOrder slots order room → i < length order → transfers_of (with_value slots (get_or order i 0) t) order ≡ set (transfers_of slots order) i t
+transfers_changed slots order room i t s l =
+    let u : Updates slots (with_value slots (get_or order i 0) t) (get_or order i 0) (Some t) = Updates-with_value slots (get_or order i 0) t (s.occupied i 0 l) in
+    map_set (transfer_at slots) (transfer_at (with_value slots (get_or order i 0) t)) 0 order i t l
+    (ap (λ o. unwrap_or o no_transfer) u.changed)
+    (λ j m ne. ap (λ o. unwrap_or o no_transfer) (u.others (get_or order j 0) (keys_differ slots order room i j s l m ne)))

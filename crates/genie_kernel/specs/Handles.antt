@@ -1,6 +1,6 @@
 -- The host's handles that a configuration names.
-use Rattle.std.specs.Prelude.{◌≡◌, ◌≢◌, ℕ, List, [], ◌∷◌, ◌++◌, flat_map, All, IfSome, Option, None, Some}
-use Rattle.std.specs.List.{AllPairs}
+use Rattle.std.specs.Prelude.{◌≡◌, ◌≢◌, ℕ, true, ◌==◌, List, [], ◌∷◌, ◌++◌, flat_map, All, IfSome, Option, None, Some}
+use Rattle.std.specs.List.{AllPairs, list_any}
 use Rattle.genie_base.specs.declared.config.Config.{Config}
 use Rattle.genie_base.specs.declared.config.DeviceConfig.{DeviceConfig}
 use Rattle.genie_host.specs.Host.{HostView, Reading, Writing, OnlyHandle}
@@ -45,3 +45,7 @@ pub record KeepsOthers (c : Config) (old new : HostView) : Type 0 where
 -- a call on one handle leaves each open in its direction
 abbrev pub CallsKeepHandles : Type 0
 CallsKeepHandles = (c : Config) (handle : ℕ) (old new : HostView) → OnlyHandle handle old new → HasHandles c old → HasHandles c new
+
+-- and one on a handle that the configuration names leaves all others as they are
+abbrev pub CallsKeepOthers : Type 0
+CallsKeepOthers = (c : Config) (handle : ℕ) (old new : HostView) → OnlyHandle handle old new → list_any (λ h. h == handle) (handles c) ≡ true → KeepsOthers c old new

@@ -1,6 +1,7 @@
 -- Lemmas on kernels and their views, for proofs here and above.
 pub mod Adding
 pub mod Alike
+pub mod Asking
 pub mod Beside
 pub mod Blind
 pub mod Changing
@@ -12,5 +13,6 @@ pub mod Removing
 pub mod Searching
 pub mod Staying
 pub mod Stepping
+pub mod Summing
 pub mod Tidying
 pub mod Turning

@@ -2,6 +2,8 @@ pub mod Loans
 pub mod Order
 pub mod Calls
 pub mod Searches
+pub mod Changes
+pub mod Asked
 pub mod Regions
 pub mod Orphans
 pub mod Transfers

@@ -6,6 +6,8 @@ use Rattle.genie_base.specs.declared.event.Event.{Event}
 use Rattle.genie_base.specs.declared.reply.Mark.{Mark}
 use Rattle.genie_base.specs.declared.reply.Mark.TheVariants.{NoFault, Device as DeviceFault, Store}
 use Rattle.genie_base.specs.declared.reply.Reply.{Reply}
+use Rattle.genie_host.specs.Host.{HostView}
+use Rattle.genie_store.specs.StoreView.{StoreView}
 use Rattle.genie_object.specs.declared.memory.Memory.{Memory}
 use Rattle.genie_object.specs.Memory.{seen}
 use Rattle.genie_orderly.specs.Orderly.{IsOrderly}
@@ -13,7 +15,7 @@ use Rattle.genie_model.specs.Refusing.{refuse}
 use Rattle.genie_model.specs.State.{State}
 use Rattle.genie_model.specs.Step.{marked, step}
 use Rattle.genie_kernel.specs.declared.kernel.Kernel.{Kernel}
-use Rattle.genie_kernel.specs.View.{Bytes, state_of, outline}
+use Rattle.genie_kernel.specs.View.{Bytes, state_of, outline, view}
 
 -- the state afterwards and the reply are those of the accepted event under that mark
 pub record Steps (old : State) (e : Event) (new : State) (reply : Reply) : Type 0 where
@@ -53,3 +55,7 @@ AcceptedStep = (k : Kernel) (b : Bytes) (e : Event) (new : State) (reply : Reply
 -- what it steps to is orderly
 abbrev pub StaysOrderly : Type 0
 StaysOrderly = (s new : State) (e : Event) (reply : Reply) → IsTrue (is_whole e) → refuse s e ≡ None → Steps s e new reply → IsOrderly s → IsOrderly new
+
+-- so an event that touches neither the host nor the store is one step where they tell their bytes
+abbrev pub AloneIsTold : Type 0
+AloneIsTold = (old new : Kernel) (e : Event) (reply : Reply) (host : HostView) (store : StoreView) → refuse (outline old) e ≡ None → new.config ≡ old.config → StepsAlone old e new reply → StepsTold (view old host store) e (view new host store) reply

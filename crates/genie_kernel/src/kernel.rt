@@ -15,6 +15,7 @@ use crate::transfers::Transfers;
 use genie_base::{Config, DeviceConfig, Kind, NoMemory, PageSize};
 use genie_demux::Posted;
 use genie_device::Device;
+use genie_frame::Meters;
 use genie_hiding::{HiddenCache, WeakQueue};
 use genie_input::Pool;
 use genie_object::Memory;
@@ -197,5 +198,12 @@ impl Kernel {
             next: 1,
             config: *config,
         })
+    }
+
+    /// What was counted since boot: bytes that were moved, pages that were got and put, and frames that were taken.
+    pub fn meters(&self) -> Meters
+        ensures { result ≡ self.now.memory.frames.meters }
+    {
+        self.memory.frames.meters()
     }
 }

@@ -1,7 +1,7 @@
 //! Laws of kernels.
-ghost use Rattle.genie_kernel.specs.Handles.{CallsKeepHandles};
+ghost use Rattle.genie_kernel.specs.Handles.{CallsKeepHandles, CallsKeepOthers};
 ghost use Rattle.genie_kernel.specs.Laws.{ViewIsTidy, StatesAreAlike, LentFramesSuffice, RefusesAlike, FreshIsAlike, MemoryCallsKeepGood, MemoryCallsKeepLent, HiddenStay, GuardsStay, RegionsChange, OwnedGrows, PostedShrinks, TransfersTurn};
-ghost use Rattle.genie_kernel.specs.Steps.{AcceptedStep, StaysOrderly};
+ghost use Rattle.genie_kernel.specs.Steps.{AcceptedStep, StaysOrderly, AloneIsTold};
 
 use genie_orderly::laws::steps_stay_orderly;
 
@@ -33,6 +33,7 @@ pub fn fresh_is_alike()
 pub fn accepted_events_step()
     ensures step { AcceptedStep }
     ensures orderly { StaysOrderly }
+    ensures alone { AloneIsTold }
 {
     steps_stay_orderly();
 }
@@ -75,5 +76,6 @@ pub fn transfers_turn()
 
 /// A call on one handle leaves the handles of the configuration open in their directions.
 pub fn calls_keep_handles()
-    ensures { CallsKeepHandles }
+    ensures open_each { CallsKeepHandles }
+    ensures others { CallsKeepOthers }
 {}

@@ -1,10 +1,12 @@
 //! A pending transfer.
 ghost use Rattle.std.specs.Prelude.{◌≡◌};
 ghost use Rattle.genie_model.specs.Pending.{is_inward, is_queued, is_moving};
-ghost use Rattle.genie_kernel.specs.Calls.{has_number, is_named, is_weak_input_into, waits_for, receives_from};
+ghost use Rattle.genie_kernel.specs.Calls.{has_number, is_named, is_weak_input_into, waits_for, receives_from, begins_at, is_copy_input};
+ghost use Rattle.genie_base.specs.Transfers.{class_of};
 ghost use Rattle.genie_kernel.specs.Searches.{names};
+ghost use Rattle.genie_kernel.specs.Changes.{changed_by};
 
-use genie_base::{Direction, Note, RegionId, Semantics, TransferId};
+use genie_base::{Class, Direction, Note, RegionId, Semantics, TransferId};
 use genie_model::Phase;
 use genie_plan::{InPlan, OutPlan};
 
@@ -45,10 +47,60 @@ pub struct Transfer {
     pub note: Note,
 }
 
+/// What an event changes of a pending transfer.
+#[derive(Clone, Copy, Debug, PartialEq, Eq)]
+pub enum Change {
+    /// How far it has come.
+    Progress {
+        phase: Phase,
+        buffer: Option<u32>,
+        stored: u32,
+        note: Note,
+    },
+    /// Its process is gone. A weak transfer still names its region, or what is left of it.
+    Ownerless {
+        region: Option<RegionId>,
+    },
+}
+
+impl Change {
+    /// Changes a transfer.
+    pub fn apply(self, transfer: &mut Transfer)
+        ensures { transfer.new ≡ changed_by self transfer.old }
+    {
+        match self {
+            Change::Progress {
+                phase,
+                buffer,
+                stored,
+                note,
+            } => {
+                transfer.phase = phase;
+                transfer.buffer = buffer;
+                transfer.stored = stored;
+                transfer.note = note;
+            }
+            Change::Ownerless { region } => {
+                transfer.owner = None;
+                transfer.region = region;
+            }
+        }
+    }
+}
+
 fn is_inward(direction: Direction) -> bool
     ensures { result ≡ is_inward direction }
 {
     matches!(direction, Direction::Inward)
+}
+
+fn is_copy_input(semantics: Semantics, direction: Direction) -> bool
+    ensures { result ≡ is_copy_input (class_of semantics) direction }
+{
+    match (semantics.class(), direction) {
+        (Class::Copy, Direction::Inward) => true,
+        _ => false,
+    }
 }
 
 fn is_queued(phase: Phase) -> bool
@@ -79,6 +131,17 @@ impl Transfer {
         ensures { result ≡ has_number id self.now }
     {
         self.id.0 == id
+    }
+
+    /// The address of a copy input, or the place in its region: from there on its pages are counted.
+    pub fn begins_at(&self) -> u32
+        ensures { result ≡ begins_at self.now }
+    {
+        if is_copy_input(self.sem, self.dir) {
+            self.addr
+        } else {
+            self.offset
+        }
     }
 
     /// Whether it is an output of this device that isn't wholly sent.

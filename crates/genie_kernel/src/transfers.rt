@@ -4,7 +4,7 @@ ghost use Rattle.std.specs.List.{list_any};
 ghost use Rattle.genie_kernel.specs.Searches.{IsFirst, passes};
 
 use crate::search::Search;
-use crate::transfer::Transfer;
+use crate::transfer::{Change, Transfer};
 use genie_base::{NoMemory, TransferId};
 use slab::Slab;
 use std::alloc::Global;
@@ -35,7 +35,8 @@ impl Model for Transfers {
 impl Transfers {
     ghost use Rattle.std.specs.Prelude.{◌<◌, ◌≤◌, ◌++◌, [], ◌∷◌, IfOk, IsSome, Some, length, find, slice_index_or};
     ghost use Rattle.std.specs.Option.{option_copied};
-    ghost use Rattle.genie_model.specs.Tables.{without};
+    ghost use Rattle.genie_model.specs.Tables.{without, change as changed_in};
+    ghost use Rattle.genie_kernel.specs.Changes.{changed_by};
     ghost use Rattle.genie_kernel.specs.Calls.{has_number};
     ghost use Rattle.genie_kernel.specs.declared.transfer.Transfer.{Transfer as TransferView};
 
@@ -93,6 +94,20 @@ impl Transfers {
         match self.first(search) {
             Some(_) => true,
             None => false,
+        }
+    }
+
+    /// Changes a transfer. The others stay as they are.
+    pub fn change(&mut self, id: TransferId, change: Change)
+        requires { IsSome (find (has_number id.0) self.old) }
+        ensures { self.new ≡ changed_in (has_number id.0) (changed_by change) self.old }
+    {
+        match first_of(self, Search::Number(id.0)) {
+            Some(i) => match self.slots.get_mut(self.order[i as usize]) {
+                Some(transfer) => change.apply(transfer),
+                None => unreachable!(),
+            },
+            None => unreachable!(),
         }
     }
 

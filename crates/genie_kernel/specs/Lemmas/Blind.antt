@@ -31,11 +31,11 @@ use Rattle.genie_kernel.specs.View.{Bytes, state_of, outline, no_bytes}
 use Rattle.genie_kernel.specs.Lemmas.Processes.{process_entry, regions_in, alive_view, regions_view, find_map, region_from_view, must_stay_view}
 use Rattle.genie_kernel.specs.Lemmas.Tidying.{any_map}
 
-all_map : {X Y : Type 0} (q : Y → Bool) (f : X → Y) (xs : List X) → list_all q (map f xs) ≡ list_all (λ x. q (f x)) xs
+pub all_map : {X Y : Type 0} (q : Y → Bool) (f : X → Y) (xs : List X) → list_all q (map f xs) ≡ list_all (λ x. q (f x)) xs
 all_map q f [] = refl
 all_map q f (x ∷ xs) = ap (λ b. q (f x) && b) (all_map q f xs)
 
-sum_map : {X Y : Type 0} (g : Y → ℕ) (f : X → Y) (xs : List X) → sum_by g (map f xs) ≡ sum_by (λ x. g (f x)) xs
+pub sum_map : {X Y : Type 0} (g : Y → ℕ) (f : X → Y) (xs : List X) → sum_by g (map f xs) ≡ sum_by (λ x. g (f x)) xs
 sum_map g f [] = refl
 sum_map g f (x ∷ xs) = sum_by-cons g (f x) (map f xs) ∙ ap (λ n. g (f x) + n) (sum_map g f xs) ∙ sym (sum_by-cons (λ y. g (f y)) x xs)
 
@@ -45,7 +45,7 @@ pages_in p = sum_by (λ (r : Region). r.pages) (regions_of p)
 pages_one : (s : ℕ → ℕ → List ℕ) (p : Option (List Region)) (q : List ℕ) → model.region_pages (process_view s p q) ≡ pages_in p
 pages_one s p q = ap (sum_by (λ (r : flat.Region). r.pages)) (regions_in s p q) ∙ sum_map (λ (r : flat.Region). r.pages) (region_view s) (regions_of p)
 
-pages_all : (s : ℕ → ℕ → List ℕ) (ps : List (Option (List Region))) (qs : List (List ℕ)) → sum_by model.region_pages (processes_view s ps qs) ≡ sum_by pages_in ps
+pub pages_all : (s : ℕ → ℕ → List ℕ) (ps : List (Option (List Region))) (qs : List (List ℕ)) → sum_by model.region_pages (processes_view s ps qs) ≡ sum_by pages_in ps
 pages_all s [] qs = refl
 pages_all s (p ∷ ps) [] = sum_by-cons model.region_pages (process_view s p []) (processes_view s ps []) ∙ ap₂ ◌+◌ (pages_one s p []) (pages_all s ps []) ∙ sym (sum_by-cons pages_in p ps)
 pages_all s (p ∷ ps) (q ∷ qs) = sum_by-cons model.region_pages (process_view s p q) (processes_view s ps qs) ∙ ap₂ ◌+◌ (pages_one s p q) (pages_all s ps qs) ∙ sym (sum_by-cons pages_in p ps)

@@ -1,12 +1,14 @@
 -- Handles stay open in their directions.
-use Rattle.std.proofs.Common.{◌≡◌, ℕ, sym, ap, ◌∙◌, ⊎_elim}
-use Rattle.std.specs.Prelude.{Option, Some, None, IfSome}
+use Rattle.std.proofs.Common.{◌≡◌, ◌≢◌, true, eqb-true, ℕ, sym, ap, ◌∙◌, ⊎_elim}
+use Rattle.std.specs.List.{list_any}
+use Rattle.std.specs.Prelude.{◌==◌, Option, Some, None, IfSome}
 use Rattle.genie_base.specs.declared.config.Config.{Config}
 use Rattle.genie_base.specs.declared.config.DeviceConfig.{DeviceConfig}
 use Rattle.genie_base.specs.Lemmas.Places.{same_or}
 use Rattle.genie_host.specs.Host.{HostView, HandleState, Mode, OnlyHandle}
 use Rattle.genie_model.specs.Tables.{entry}
-use Rattle.genie_kernel.specs.Handles.{IsOpen, HasHandles}
+use Rattle.genie_model.specs.Lemmas.Lists.{all_has, any_has}
+use Rattle.genie_kernel.specs.Handles.{IsOpen, HasHandles, KeepsOthers, handles}
 
 mode_kept : (handle h : ℕ) (old new : HostView) → OnlyHandle handle old new → (new.handle h).mode ≡ (old.handle h).mode
 mode_kept handle h old new only = ⊎_elim
@@ -24,3 +26,15 @@ open_kept handle old new only (Some c) h = record { input = some_kept handle old
 
 pub handles_kept : (c : Config) (handle : ℕ) (old new : HostView) → OnlyHandle handle old new → HasHandles c old → HasHandles c new
 handles_kept c handle old new only h = record { open_each = λ d. open_kept handle old new only (entry c.devices d) (h.open_each d); apart = h.apart; own = h.own }
+
+pub others_kept : (c : Config) (handle : ℕ) (old new : HostView) → OnlyHandle handle old new → list_any (λ h. h == handle) (handles c) ≡ true → KeepsOthers c old new
+others_kept c handle old new only there = record {
+  handles_kept = λ h apart. only.others h (λ is.
+      let named = any_has (λ g. g == handle) (handles c) there in
+      absurd (all_has (λ g. h ≢ g) (handles c) apart named.0 named.1 (is ∙ sym (eqb-true named.0 handle named.2))));
+  modes = λ h. mode_kept handle h old new only;
+  names = only.names;
+  opened = only.opened;
+  tried = only.tried;
+  refusals = only.refusals;
+}
