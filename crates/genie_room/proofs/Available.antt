@@ -23,11 +23,13 @@ use Rattle.genie_model.specs.Lemmas.Causes.{none_holds, both_none}
 use Rattle.genie_kernel.specs.declared.transfer.Transfer.{Transfer}
 use Rattle.genie_kernel.specs.Counted.{pool_on}
 use Rattle.genie_kernel.specs.Loans.{frames_of}
-use Rattle.genie_kernel.specs.View.{outline}
-use Rattle.genie_room.specs.Frames.{loan_count, loans_in, need, is_pool, pooled, FramesAreLent, PoolsAreFew, CostsAreAvailable, FourAreAvailable, PendingAreAvailable, CopiesAreAvailable, OutputsAreAvailable, InputsAreAvailable}
+use Rattle.genie_kernel.specs.Asked.{cost_of}
+use Rattle.genie_kernel.specs.View.{outline, no_bytes}
+use Rattle.genie_kernel.specs.Lemmas.Asking.{ask_wired}
+use Rattle.genie_room.specs.Frames.{loan_count, loans_in, is_pool, pooled, FramesAreLent, PoolsAreFew, CostsAreAvailable, FourAreAvailable, PendingAreAvailable, CopiesAreAvailable, OutputsAreAvailable, InputsAreAvailable}
 use Rattle.genie_room.specs.Lemmas.Totals.{total, total_more, total_plus, total_none, total_sums, total_counts, total_same, sum_places, sum_all, sum_above_any, sum_beside_one}
 use Rattle.genie_room.proofs.Lent.{lent_to, lendings, unavailable, both_total}
-use Rattle.genie_room.proofs.Wired.{loans_wired, lent_long, lent_need, wired_need, copy_need, pools_small, pool_size}
+use Rattle.genie_room.proofs.Wired.{loans_wired, lent_long, lent_need, copy_need, pools_small, pool_size}
 
 -- each loan is of one frame
 frames_total : (n : ℕ) (frames : List ℕ) → total (λ f. times frames f) n ≤ length frames
@@ -76,10 +78,10 @@ four_available k g =
 
 pub pending_available : PendingAreAvailable
 pending_available k g i d l =
-    let beside = sum_beside_one loan_count (need k.config.page) d k.transfers i (lent_need k g) l in
+    let beside = sum_beside_one loan_count (cost_of k.config.page) d k.transfers i (lent_need k g) l in
     let room : pooled k + 8 ≤ k.config.frames = g.fits.pool in
     let bound : wired (outline k) ≤ k.config.frames - pooled k - 4 = g.orderly.wired in
-    omega (arith, beside, room, bound, frames_lent k g, wired_need k g)
+    omega (arith, beside, room, bound, frames_lent k g, ask_wired k (no_bytes k.config.page))
 
 pub copies_available : CopiesAreAvailable
 copies_available k g i d l c inward =

@@ -1,8 +1,8 @@
 -- What every kernel has room for, and what calls leave of it that keep the sizes, or loans.
-use Rattle.std.proofs.Common.{◌≡◌, ℕ, ◌≤◌, ◌+◌, suc, not, List, [], ◌∷◌, refl, sym, arith, ap, length, get_or, ◌∙◌, subst, inl, inr}
+use Rattle.std.proofs.Common.{◌≡◌, ℕ, ◌<◌, ◌≤◌, ◌+◌, suc, true, false, not, List, [], ◌∷◌, refl, sym, arith, ap, length, get_or, ◌∙◌, subst, inl, inr}
 use Rattle.std.specs.Prelude.{◌&&◌, ◌==◌, count_by, if◌then◌else◌}
 use Rattle.std.proofs.lemmas.Bool.{cases_lt, eq-eqb}
-use Rattle.genie_base.specs.Lemmas.Places.{num}
+use Rattle.genie_base.specs.Lemmas.Places.{num, any_default}
 use Rattle.genie_frame.specs.declared.frame.Owner.{Owner}
 use Rattle.genie_frame.specs.declared.frame.Owner.TheVariants.{Free, Page, System, Pool, Nobody}
 use Rattle.genie_frame.specs.declared.frame.Counts.{Counts}
@@ -12,15 +12,14 @@ use Rattle.genie_object.specs.declared.objects.Entry.{Entry}
 use Rattle.genie_object.specs.Lemmas.Lookup.{in_range}
 use Rattle.genie_object.specs.Objects.{is_absent, object_at}
 use Rattle.genie_object.specs.Touching.{system_owner}
-use Rattle.genie_plan.specs.Plans.{times}
+use Rattle.genie_plan.specs.Plans.{times, AreApart}
 use Rattle.genie_plan.specs.Lemmas.Landings.{times_some}
 use Rattle.genie_region.specs.declared.region.Region.{Region}
 use Rattle.genie_hiding.specs.Rooms.{is_available, count_both}
 use Rattle.genie_model.specs.Regions.{committed}
 use Rattle.genie_kernel.specs.Backed.{AreBacked, all_regions}
-use Rattle.genie_kernel.specs.Planned.{AreItsOwn}
 use Rattle.genie_kernel.specs.View.{outline}
-use Rattle.genie_room.specs.Places.{KeepsSizes, is_pageless, PlacesFit, PlacesAreKept, PlacesSuffice, OwnFramesSuffice}
+use Rattle.genie_room.specs.Places.{KeepsSizes, is_pageless, PlacesFit, PlacesAreKept, PlacesSuffice, BuffersSuffice}
 use Rattle.genie_room.specs.Frames.{AvailableIsKept}
 use Rattle.genie_room.specs.Rooms.{RoomIsKept}
 use Rattle.genie_room.specs.Bounds.{AreLow}
@@ -75,27 +74,28 @@ places_kept k m good keeps sound fits =
 pub places_suffice : PlacesSuffice
 places_suffice k good = places_kept k k.memory good (record { entries = λ o. refl; number = refl; slots = refl; most = refl }) good.sound good.cached
 
--- each frame of a transfer's own is one of the system's
-own_frames : (owners : List Owner) (number : ℕ) (frames : List ℕ) → AreItsOwn owners number frames → length frames ≤ count_by is_system owners
-own_frames owners number frames its =
+-- each of these frames is another one of the system's
+system_frames : (owners : List Owner) (frames : List ℕ) → ((k : ℕ) → k < length frames → is_system (get_or owners (get_or frames k 0) Free) ≡ true) → AreApart frames → length frames ≤ count_by is_system owners
+system_frames owners frames systems apart =
     let n = length owners in
     let each = sum_all (λ g. 1) (λ g. total (λ f. num (g == f)) n) frames (λ k d l.
     let g = get_or frames k d in
     let one = ap num (eq-eqb g g refl) in
-    let there = in_range owners g Free (λ free. let both : Free ≡ System number = sym free ∙ its.own k d l in cc) in
+    let system : is_system (get_or owners g Free) ≡ true = ap (λ f. is_system (get_or owners f Free)) (any_default frames k d 0 l) ∙ systems k l in
+    let there = in_range owners g Free (λ free. let both : true ≡ false = sym system ∙ ap is_system free in cc) in
     omega (arith, one, total_above (λ f. num (g == f)) n g there)) in
     let once = total_more (λ f. times frames f) (λ f. num (is_system (get_or owners f Free))) n (λ f l. elim (cases_lt 0 (times frames f)) [
       | inl some ↦
           let at = times_some frames f some in
-          let system : get_or owners f Free ≡ System number = subst (λ g. get_or owners g Free ≡ System number) at.2 (its.own at.0 0 at.1) in
-          let one = ap (λ o. num (is_system o)) system in
-          omega (arith, one, its.apart f)
+          let system : is_system (get_or owners f Free) ≡ true = subst (λ g. is_system (get_or owners g Free) ≡ true) at.2 (systems at.0 at.1) in
+          let one = ap num system in
+          omega (arith, one, apart f)
       | inr none ↦ omega (arith, none)
     ]) in
     omega (arith, each, once, sum_ones frames, total_sums (λ f g. num (g == f)) n frames, sum_places (λ o. num (is_system o)) Free owners)
 
-pub own_suffice : OwnFramesSuffice
-own_suffice m hidden number frames has its = omega (arith, has.pages, pageless m.frames.owners, own_frames m.frames.owners number frames its)
+pub buffers_suffice : BuffersSuffice
+buffers_suffice m hidden frames has systems apart = omega (arith, has.pages, pageless m.frames.owners, system_frames m.frames.owners frames systems apart)
 
 -- a frame can be had just where it is no system frame and isn't lent
 by_parts : (o : Owner) (c : Counts) → Agree o c → is_available o c ≡ (not (is_system o) && not (is_lent c))

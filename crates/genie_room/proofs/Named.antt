@@ -1,6 +1,6 @@
 -- Each page that is somewhere is named by an entry of an owned region's object, or of a hidden one's.
 use Rattle.std.proofs.Common.{◌≡◌, ℕ, ◌<◌, ◌≤◌, ◌+◌, suc, zero, Bool, true, false, List, [], ◌∷◌, ◌++◌, refl, sym, arith, ap, map, get_or, ◌∙◌, inl, inr}
-use Rattle.std.specs.Prelude.{◌==◌, ◌⊎◌, count_by, sum_by, All, replicate, Option, None, Some, if◌then◌else◌}
+use Rattle.std.specs.Prelude.{◌==◌, ◌⊎◌, count_by, sum_by, All, Option, None, Some, if◌then◌else◌}
 use Rattle.std.proofs.lemmas.Bool.{eqb-true, cases_lt}
 use Rattle.std.proofs.lemmas.List.Sums.{sum_by-cons, sum_by-append}
 use Rattle.std.proofs.lemmas.List.Concat.{flat_map-cons}
@@ -19,9 +19,11 @@ use Rattle.genie_space.specs.Translations.{IsBacked}
 use Rattle.genie_hiding.specs.declared.hidden.Hidden.{Hidden}
 use Rattle.genie_hiding.specs.Hidden.{times_hidden, is_hidden, objects_of, object_of}
 use Rattle.genie_hiding.specs.Lemmas.Searching.{hidden_by}
-use Rattle.genie_model.specs.Regions.{region_pages}
 use Rattle.genie_kernel.specs.Backed.{AreBacked, all_regions, has_object, hidden_region}
-use Rattle.genie_kernel.specs.Regions.{owned_regions, regions_of, region_view, process_view, processes_view}
+use Rattle.genie_kernel.specs.Asked.{pages_in}
+use Rattle.genie_kernel.specs.Regions.{owned_regions, regions_of}
+use Rattle.genie_kernel.specs.View.{no_bytes}
+use Rattle.genie_kernel.specs.Lemmas.Asking.{ask_committed}
 use Rattle.genie_room.specs.Places.{pages_of, PagesAreCommitted}
 use Rattle.genie_room.specs.Lemmas.Totals.{total, total_none, total_same, total_counts, total_sums, sum_all}
 
@@ -118,17 +120,12 @@ owned_total objects ps hidden n backed =
     let each = first_all (IsBacked objects) (owned_regions ps) (map hidden_region hidden) backed.each in
     omega (arith, total_sums (names_in objects) n (owned_regions ps), sum_all (λ r. total (λ p. names_in objects p r) n) (λ (r : Region). r.pages) (owned_regions ps) (λ k d l. region_total objects n (get_or (owned_regions ps) k d) (each k d l)))
 
-region_sum : (s : ℕ → ℕ → List ℕ) (p : Option (List Region)) (q : List ℕ) → region_pages (process_view s p q) ≡ sum_by (λ (r : Region). r.pages) (regions_of p)
-region_sum s None q = refl
-region_sum s (Some rs) q = sum_by-map (λ r. r.pages) (region_view s) rs
-
-first_pages : (p : Option (List Region)) (ps : List (Option (List Region))) → pages_of (p ∷ ps) ≡ sum_by (λ (r : Region). r.pages) (regions_of p) + pages_of ps
+first_pages : (p : Option (List Region)) (ps : List (Option (List Region))) → pages_of (p ∷ ps) ≡ pages_in p + pages_of ps
 first_pages p ps = ap (sum_by (λ (r : Region). r.pages)) (flat_map-cons regions_of p ps) ∙ sum_by-append (λ (r : Region). r.pages) (regions_of p) (owned_regions ps)
 
-committed_sum : (s : ℕ → ℕ → List ℕ) (ps : List (Option (List Region))) (qs : List (List ℕ)) → sum_by region_pages (processes_view s ps qs) ≡ pages_of ps
-committed_sum s [] qs = refl
-committed_sum s (p ∷ ps) [] = omega (arith, committed_sum s ps [], first_pages p ps, region_sum s p [], sum_by-cons region_pages (process_view s p []) (processes_view s ps []))
-committed_sum s (p ∷ ps) (q ∷ qs) = omega (arith, committed_sum s ps qs, first_pages p ps, region_sum s p q, sum_by-cons region_pages (process_view s p q) (processes_view s ps qs))
+owned_sum : (ps : List (Option (List Region))) → pages_of ps ≡ sum_by pages_in ps
+owned_sum [] = refl
+owned_sum (p ∷ ps) = omega (arith, first_pages p ps, owned_sum ps, sum_by-cons pages_in p ps)
 
 pub owned_committed : PagesAreCommitted
-owned_committed k = sym (committed_sum (λ o i. replicate k.config.page 0) k.spaces.processes k.queues)
+owned_committed k = owned_sum k.spaces.processes ∙ sym (ask_committed k (no_bytes k.config.page))

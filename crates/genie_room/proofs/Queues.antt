@@ -1,15 +1,15 @@
 -- How long the weak queue of a process is.
-use Rattle.std.proofs.Common.{◌≡◌, ℕ, ◌≤◌, suc, zero, Bool, true, false, List, [], ◌∷◌, refl, arith, ap, length, map, get_or, ◌∙◌, subst}
-use Rattle.std.specs.Prelude.{◌==◌, ◌&&◌, count_by, sum_by, replicate, IfSome, Option}
+use Rattle.std.proofs.Common.{◌≡◌, ℕ, ◌≤◌, suc, Bool, true, false, List, [], refl, arith, ap, length, map, get_or, ◌∙◌, subst}
+use Rattle.std.specs.Prelude.{◌==◌, ◌&&◌, count_by, sum_by, replicate, IfSome}
 use Rattle.std.proofs.lemmas.Bool.{eq-eqb}
 use Rattle.std.proofs.lemmas.List.Sums.{get_or-le-sum_by}
 use Rattle.genie_base.specs.Lemmas.Mapped.{sum_by-map}
 use Rattle.genie_base.specs.Lemmas.Places.{num}
 use Rattle.genie_region.specs.declared.region.Region.{Region}
 use Rattle.genie_model.specs.State as flat
-use Rattle.genie_model.specs.Tables.{entry}
 use Rattle.genie_orderly.specs.Orderly.{ListsOut, is_out, is_out_region}
-use Rattle.genie_kernel.specs.Regions.{regions_of, region_view, process_view, processes_view}
+use Rattle.genie_kernel.specs.Regions.{regions_of, region_view, process_view}
+use Rattle.genie_kernel.specs.Lemmas.Processes.{process_entry}
 use Rattle.genie_room.specs.Places.{QueuesSuffice}
 use Rattle.genie_room.specs.Lemmas.Totals.{total, total_more, total_none, total_same, total_above, total_sums, sum_all, sum_ones, count_split}
 
@@ -39,18 +39,11 @@ listed queue regions same =
     let last = sum_all (λ r. total (λ k. num (is_out_region k r)) n) (λ (r : flat.Region). num (is_out r.state)) regions (λ i d l. numbered (get_or regions i d).number (is_out (get_or regions i d).state) n) in
     omega (arith, first, middle, last, sum_ones queue, total_sums (λ k m. num (m == k)) n queue, total_sums (λ k r. num (is_out_region k r)) n regions)
 
-view_at : (s : ℕ → ℕ → List ℕ) (ps : List (Option (List Region))) (qs : List (List ℕ)) (p : ℕ) → entry (processes_view s ps qs) p ≡ process_view s (entry ps p) (get_or qs p [])
-view_at s [] qs p = refl
-view_at s (x ∷ ps) [] zero = refl
-view_at s (x ∷ ps) [] (suc p) = view_at s ps [] p
-view_at s (x ∷ ps) (q ∷ qs) zero = refl
-view_at s (x ∷ ps) (q ∷ qs) (suc p) = view_at s ps qs p
-
 pub queues_suffice : QueuesSuffice
 queues_suffice k p regions good e =
     let s : ℕ → ℕ → List ℕ = λ o i. replicate k.config.page 0 in
     let queue = get_or k.queues p [] in
-    let is = view_at s k.spaces.processes k.queues p ∙ ap (λ x. process_view s x queue) e in
+    let is = process_entry s k.spaces.processes k.queues p ∙ ap (λ x. process_view s x queue) e in
     let out : ListsOut (record { queue = queue; regions = map (region_view s) regions }) = subst (λ x. IfSome x ListsOut) is (good.orderly.weak p) in
     let few = ap (λ x. length (regions_of x)) e in
     omega (arith, few, good.few.few p, listed queue (map (region_view s) regions) out, sum_by-map (λ (r : flat.Region). num (is_out r.state)) (region_view s) regions, count_split (λ (r : Region). is_out r.state) regions)

@@ -1,6 +1,6 @@
 -- The pending transfers have at most as many loans as they may need frames, and pools as many frames as they were given.
 use Rattle.std.proofs.Common.{◌≡◌, ℕ, ◌≤◌, ◌*◌, Bool, true, false, List, refl, arith, ap, length, map, get_or, ◌∙◌}
-use Rattle.std.specs.Prelude.{sum_by, All, Option, None, Some, replicate}
+use Rattle.std.specs.Prelude.{sum_by, All, Option, None, Some}
 use Rattle.std.specs.Option.{option_map}
 use Rattle.std.proofs.lemmas.List.{length-map}
 use Rattle.genie_base.specs.Lemmas.Mapped.{sum_by-map}
@@ -17,20 +17,20 @@ use Rattle.genie_base.specs.declared.semantics.Direction.TheVariants as directio
 use Rattle.genie_device.specs.Device.{DeviceView}
 use Rattle.genie_frame.specs.declared.frame.Owner.{Owner}
 use Rattle.genie_input.specs.Pools.{PoolState}
-use Rattle.genie_model.specs.Pending.{wired, cost_of}
 use Rattle.genie_model.specs.Tables.{entry}
 use Rattle.genie_kernel.specs.declared.kernel.Kernel.{Kernel}
 use Rattle.genie_kernel.specs.declared.transfer.Transfer.{Transfer}
 use Rattle.genie_kernel.specs.declared.transfer.Loans.{Loans}
 use Rattle.genie_kernel.specs.declared.transfer.Loans.TheVariants.{Nothing, Outward, Inward}
-use Rattle.genie_kernel.specs.Calls.{first_waiting, begins_at, is_strong_call, is_copy_input}
+use Rattle.genie_kernel.specs.Asked.{cost_of}
+use Rattle.genie_kernel.specs.Calls.{begins_at, is_strong_call, is_copy_input}
 use Rattle.genie_kernel.specs.Loans.{frames_of}
 use Rattle.genie_kernel.specs.Planned.{is_early_device, Lends, LendsInput, LendsStrongly, LendsIn, LendsOut}
 use Rattle.genie_kernel.specs.Sizes.{is_pooled, IsEquipped, IsPoolOf}
-use Rattle.genie_kernel.specs.Transfers.{transfer_view}
-use Rattle.genie_kernel.specs.View.{outline}
+use Rattle.genie_kernel.specs.View.{no_bytes}
+use Rattle.genie_kernel.specs.Lemmas.Asking.{ask_wired}
 use Rattle.genie_kernel.specs.Good.{IsGood}
-use Rattle.genie_room.specs.Frames.{loan_count, need, pooled, LoansAreWired}
+use Rattle.genie_room.specs.Frames.{loan_count, pooled, LoansAreWired}
 use Rattle.genie_room.specs.Lemmas.Totals.{sum_all, sum_beneath}
 
 out_long : (page : ℕ) (t : Transfer) (loans : Loans) → LendsOut page t loans → length (frames_of loans) ≤ span page (begins_at t) t.len
@@ -64,7 +64,7 @@ cost_more Move d pages = omega arith
 cost_more WeakMove d pages = omega arith
 
 -- a copy input may need two frames for each page of its range
-pub copy_need : (page : ℕ) (t : Transfer) → class_of t.sem ≡ Copy → t.dir ≡ direction.Inward → (need page t ≡ 2 * span page t.addr t.len) × (span page (begins_at t) t.len ≡ span page t.addr t.len)
+pub copy_need : (page : ℕ) (t : Transfer) → class_of t.sem ≡ Copy → t.dir ≡ direction.Inward → (cost_of page t ≡ 2 * span page t.addr t.len) × (span page (begins_at t) t.len ≡ span page t.addr t.len)
 copy_need page t c d =
     let input : is_copy_input (class_of t.sem) t.dir ≡ true = ap (λ x. is_copy_input x t.dir) c ∙ ap (is_copy_input Copy) d in
     let at : begins_at t ≡ t.addr = rw input refl in
@@ -75,11 +75,8 @@ module _ (k : Kernel) (good : IsGood k) where
   pub lent_long : All (λ t. loan_count t ≤ span k.config.page (begins_at t) t.len) k.transfers
   lent_long i d l = let t = get_or k.transfers i d in long k.config.page k.memory.frames.owners (is_early_device (entry k.devices t.dev)) t t.dir (good.planned i d l)
 
-  pub lent_need : All (λ t. loan_count t ≤ need k.config.page t) k.transfers
+  pub lent_need : All (λ t. loan_count t ≤ cost_of k.config.page t) k.transfers
   lent_need i d l = let t = get_or k.transfers i d in omega (arith, lent_long i d l, cost_more (class_of t.sem) t.dir (span k.config.page (begins_at t) t.len))
-
-  pub wired_need : wired (outline k) ≡ sum_by (need k.config.page) k.transfers
-  wired_need = sum_by-map (cost_of k.config.page) (transfer_view (λ f. replicate k.config.page 0) k.devices k.pools (first_waiting k.transfers)) k.transfers
 
 -- how many frames a pool has
 abbrev pub pool_size : Option PoolState → ℕ
@@ -108,4 +105,4 @@ module _ (k : Kernel) (good : IsGood k) where
       omega (arith, below, sum_by-map device_pool (option_map device_config) k.config.devices)
 
 pub loans_wired : LoansAreWired
-loans_wired k good = omega (arith, wired_need k good, sum_all loan_count (need k.config.page) k.transfers (lent_need k good))
+loans_wired k good = omega (arith, ask_wired k (no_bytes k.config.page), sum_all loan_count (cost_of k.config.page) k.transfers (lent_need k good))

@@ -16,14 +16,15 @@ use Rattle.genie_object.specs.Sound.{IsSound}
 use Rattle.genie_object.specs.Touching.{KeepsLoans}
 use Rattle.genie_hiding.specs.Rooms.{available}
 use Rattle.genie_model.specs.Inputs.{address_or_zero}
-use Rattle.genie_model.specs.Pending.{wired, cost_of, touched}
+use Rattle.genie_model.specs.Pending as pending
+use Rattle.genie_model.specs.Pending.{wired}
 use Rattle.genie_model.specs.Refusing.{frames_to_wire, refuse}
 use Rattle.genie_model.specs.State as flat
 use Rattle.genie_orderly.specs.Lemmas.AcceptedCalls.{OnCall}
 use Rattle.genie_orderly.specs.Lemmas.KeptCalls.{call_of}
 use Rattle.genie_kernel.specs.declared.kernel.Kernel.{Kernel}
 use Rattle.genie_kernel.specs.declared.transfer.Transfer.{Transfer}
-use Rattle.genie_kernel.specs.Calls.{begins_at}
+use Rattle.genie_kernel.specs.Asked.{cost_of}
 use Rattle.genie_kernel.specs.Loans.{frames_of}
 use Rattle.genie_kernel.specs.View.{outline}
 use Rattle.genie_kernel.specs.Good.{IsGood}
@@ -35,10 +36,6 @@ loan_count t = length (frames_of t.loans)
 -- how many these transfers have
 abbrev pub loans_in : List Transfer → ℕ
 loans_in transfers = sum_by loan_count transfers
-
--- how many frames a transfer may need, those that are lent for it included
-abbrev pub need : ℕ → Transfer → ℕ
-need page t = cost (class_of t.sem) t.dir (span page (begins_at t) t.len)
 
 abbrev pub is_pool : Owner → Bool
 is_pool Free = false
@@ -74,8 +71,8 @@ CostsAreAvailable = (k : Kernel) (frames : ℕ) → IsGood k → wired (outline 
 -- the transfer of a call can have all that it may need, and four frames, and touches at most 65 pages
 pub record CanBegin (page frames : ℕ) (t : flat.Transfer) : Type 0 where
   pub len : t.len ≤ 64 * page
-  pub pages : touched page t ≤ 65
-  pub cost : cost_of page t + 4 ≤ frames
+  pub pages : pending.touched page t ≤ 65
+  pub cost : pending.cost_of page t + 4 ≤ frames
 
 -- so it is with each call that isn't refused
 abbrev pub CallsCanBegin : Type 0
@@ -89,9 +86,9 @@ OutputsAreAvailable = (k : Kernel) (p : ℕ) (sem : Semantics) (d port : ℕ) (f
 abbrev pub InputsAreAvailable : Type 0
 InputsAreAvailable = (k : Kernel) (p : ℕ) (sem : Semantics) (d port : ℕ) (flow addr : Option ℕ) (n : ℕ) → IsGood k → refuse (outline k) (event.Input p sem d port flow addr n) ≡ None → cost (class_of sem) Inward (span k.config.page (address_or_zero addr) n) + 4 ≤ available k.memory.frames
 
--- a pending transfer can have what it may need beside its loans, and four
+-- a pending transfer can have what it may need, its loans included, and four frames
 abbrev pub PendingAreAvailable : Type 0
-PendingAreAvailable = (k : Kernel) → IsGood k → All (λ (t : Transfer). need k.config.page t + 4 ≤ available k.memory.frames + loan_count t) k.transfers
+PendingAreAvailable = (k : Kernel) → IsGood k → All (λ (t : Transfer). cost_of k.config.page t + 4 ≤ available k.memory.frames + loan_count t) k.transfers
 
 -- a copy input can have the pages of its range beside its loans, and four
 abbrev pub CopiesAreAvailable : Type 0

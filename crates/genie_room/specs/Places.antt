@@ -1,12 +1,13 @@
 -- How many slots, pages and objects there may still be, and how many regions in a weak queue.
-use Rattle.std.specs.Prelude.{◌≡◌, ℕ, ◌+◌, ◌≤◌, ◌<◌, Bool, not, List, [], length, sum_by, count_by, Option, None, Some, slice_index_or}
+use Rattle.std.specs.Prelude.{◌≡◌, ℕ, ◌+◌, ◌≤◌, ◌<◌, Bool, true, not, List, [], length, sum_by, count_by, Option, None, Some, slice_index_or}
 use Rattle.genie_frame.specs.declared.frame.Owner.{Owner}
-use Rattle.genie_frame.specs.FrameTable.{is_free, is_page}
+use Rattle.genie_frame.specs.FrameTable.{is_free, is_page, is_system, owner_at}
 use Rattle.genie_object.specs.declared.memory.Memory.{Memory}
 use Rattle.genie_object.specs.declared.objects.Entry.{Entry}
 use Rattle.genie_object.specs.Objects.{is_absent, object_at}
 use Rattle.genie_object.specs.Pages.{is_there}
 use Rattle.genie_object.specs.Sound.{IsSound, FitsHidden}
+use Rattle.genie_plan.specs.Plans.{AreApart}
 use Rattle.genie_region.specs.declared.region.Region.{Region}
 use Rattle.genie_hiding.specs.declared.hidden.Hidden.{Hidden}
 use Rattle.genie_hiding.specs.Hidden.{objects_of, is_of}
@@ -16,7 +17,6 @@ use Rattle.genie_model.specs.Tables.{entry}
 use Rattle.genie_orderly.specs.Orderly.{is_out}
 use Rattle.genie_kernel.specs.declared.kernel.Kernel.{Kernel}
 use Rattle.genie_kernel.specs.Backed.{AreBacked, AreFew, all_regions}
-use Rattle.genie_kernel.specs.Planned.{AreItsOwn}
 use Rattle.genie_kernel.specs.Regions.{regions_of, owned_regions}
 use Rattle.genie_kernel.specs.View.{outline}
 use Rattle.genie_kernel.specs.Good.{IsGood}
@@ -58,9 +58,10 @@ pub record KeepsSizes (old new : Memory) : Type 0 where
 abbrev pub PlacesAreKept : Type 0
 PlacesAreKept = (k : Kernel) (m : Memory) → IsGood k → KeepsSizes k.memory m → IsSound m → FitsHidden m (objects_of k.hidden) → HasPlaces m (objects_of k.hidden)
 
--- there can be a page more for each frame of a transfer's own, beside those for free frames
-abbrev pub OwnFramesSuffice : Type 0
-OwnFramesSuffice = (m : Memory) (hidden : List ℕ) (number : ℕ) (frames : List ℕ) → HasPlaces m hidden → AreItsOwn m.frames.owners number frames → count_by is_there m.pages.pages + count_by is_free m.frames.owners + length frames ≤ m.pages.most
+-- there can be a page more for each of these frames of the system, beside those for free frames: so the frames of a buffer
+-- can become pages
+abbrev pub BuffersSuffice : Type 0
+BuffersSuffice = (m : Memory) (hidden : List ℕ) (frames : List ℕ) → HasPlaces m hidden → ((k : ℕ) → k < length frames → is_system (owner_at m.frames (slice_index_or frames k 0)) ≡ true) → AreApart frames → count_by is_there m.pages.pages + count_by is_free m.frames.owners + length frames ≤ m.pages.most
 
 -- where a process has room for one more region, one more object can be there
 abbrev pub ObjectsSuffice : Type 0

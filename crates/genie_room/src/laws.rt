@@ -1,7 +1,7 @@
 //! Laws of the room that a good kernel has.
 ghost use Rattle.genie_room.specs.Frames.{PoolsAreFew, FramesAreLent, LoansAreWired, FourAreAvailable, CostsAreAvailable, CallsCanBegin, OutputsAreAvailable, InputsAreAvailable, PendingAreAvailable, CopiesAreAvailable, AvailableIsKept};
 ghost use Rattle.genie_room.specs.Bounds.{PlansAreShort, CountsAreLow};
-ghost use Rattle.genie_room.specs.Places.{PlacesFit, PagesAreCommitted, PlacesSuffice, PlacesAreKept, OwnFramesSuffice, ObjectsSuffice, QueuesSuffice};
+ghost use Rattle.genie_room.specs.Places.{PlacesFit, PagesAreCommitted, PlacesSuffice, PlacesAreKept, BuffersSuffice, ObjectsSuffice, QueuesSuffice};
 ghost use Rattle.genie_room.specs.Rooms.{RoomIsKept};
 
 /// Pools have at most the frames that they were given.
@@ -92,9 +92,9 @@ pub fn places_are_kept()
     ensures { PlacesAreKept }
 {}
 
-/// There is room for the pages that the frames of a transfer's own buffer become.
-pub fn own_frames_suffice()
-    ensures { OwnFramesSuffice }
+/// There is room for the pages that the frames of a buffer become.
+pub fn buffers_suffice()
+    ensures { BuffersSuffice }
 {}
 
 /// Where a process has room for one more region, one more object can be there.
