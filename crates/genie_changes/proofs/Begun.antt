@@ -28,6 +28,7 @@ use Rattle.genie_kernel.specs.Regions.{owned_regions, processes_view}
 use Rattle.genie_kernel.specs.Same.{SameNeeded}
 use Rattle.genie_kernel.specs.View.{Bytes, state_of}
 use Rattle.genie_kernel.specs.Lemmas.Alike.{transfers_alike, orphans_alike, devices_alike}
+use Rattle.genie_changes.proofs.Lists.{found_before, found_same, any_same, passes_found, map_more}
 use Rattle.genie_changes.specs.States.{WaitsBehind, begun, first_phase, first_payload}
 
 map_alike : {X Y : Type 0} (f g : X → Y) (xs : List X) → ((x : X) → Has x xs → f x ≡ g x) → map f xs ≡ map g xs
@@ -43,35 +44,9 @@ map_filtered f g p (k ∷ ks) h =
       | false ↦ λ e. rest
     ] refl
 
-module _ {X : Type 0} (q : X → Bool) (t : X) where
-  found_before : (xs : List X) (x : X) → find q xs ≡ Some x → find q (xs ++ t ∷ []) ≡ Some x
-  found_before [] x e = absurd (cc)
-  found_before (y ∷ ys) x e = elim (q y) as (λ b. cond b (Some y) (find q ys) ≡ Some x → cond b (Some y) (find q (ys ++ t ∷ [])) ≡ Some x) [ true ↦ λ h. h | false ↦ λ h. found_before ys x h ] e
-
-  found_none : (xs : List X) → find q xs ≡ None → q t ≡ false → find q (xs ++ t ∷ []) ≡ find q xs
-  found_none [] e f = ap (λ b. cond b (Some t) None) f
-  found_none (y ∷ ys) e f = elim (q y) as (λ b. cond b (Some y) (find q ys) ≡ None → cond b (Some y) (find q (ys ++ t ∷ [])) ≡ cond b (Some y) (find q ys)) [ true ↦ λ h. refl | false ↦ λ h. found_none ys h f ] e
-
-  found_same : (xs : List X) → q t ≡ false → find q (xs ++ t ∷ []) ≡ find q xs
-  found_same [] f = ap (λ b. cond b (Some t) None) f
-  found_same (y ∷ ys) f = ap (λ o. cond (q y) (Some y) o) (found_same ys f)
-
-  any_same : (xs : List X) → q t ≡ false → list_any q (xs ++ t ∷ []) ≡ list_any q xs
-  any_same [] f = ap (λ b. b || false) f
-  any_same (y ∷ ys) f = ap (λ b. q y || b) (any_same ys f)
-
-  passes_found : (xs : List X) (x : X) → Has x xs → q x ≡ true → find q xs ≡ None → ⊥
-  passes_found [] x h p e = absurd h
-  passes_found (y ∷ ys) x (inl is) p e = let here : q y ≡ true = ap q is ∙ p in let never : Some y ≡ None = sym (ap (λ b. cond b (Some y) (find q ys)) here) ∙ e in absurd (cc)
-  passes_found (y ∷ ys) x (inr h) p e = elim (q y) as (λ b. cond b (Some y) (find q ys) ≡ None → ⊥) [ true ↦ λ g. absurd (cc) | false ↦ λ g. passes_found ys x h p g ] e
-
 both_none : (b : Bool) → (b && false) ≡ false
 both_none true = refl
 both_none false = refl
-
-map_more : {X Y : Type 0} (f : X → Y) (xs : List X) (t : X) → map f (xs ++ t ∷ []) ≡ map f xs ++ f t ∷ []
-map_more f [] t = refl
-map_more f (x ∷ xs) t = ap (λ l. f x ∷ l) (map_more f xs t)
 
 module _ (s : ℕ → List ℕ) (devices : List (Option DeviceView)) (pools : List (Option PoolState)) (t : Transfer) (ts : List Transfer) (w : WaitsBehind devices t ts) where
   abbrev before : ℕ → Option Transfer

@@ -9,6 +9,7 @@ use Rattle.genie_kernel.specs.declared.transfer.Transfer.{Transfer}
 use Rattle.genie_kernel.specs.Calls.{region_number, is_strong_call}
 use Rattle.genie_kernel.specs.Held.{PageOf, AreHeldPages, HoldsPages, page_of_loan, weak_transfers}
 use Rattle.genie_kernel.specs.Loans.{frames_of}
+use Rattle.genie_changes.proofs.Lists.{all_more}
 use Rattle.genie_changes.specs.Pages.{HoldsBeside}
 
 abbrev same_region : Option ℕ → Option ℕ → Bool
@@ -133,12 +134,6 @@ module _ (page : ℕ) (m : Memory) (rs : List Region) (t : Transfer) (ts : List 
         let back : first + j - first ≡ j = omega arith in
         ap (λ b. cond b (get_or fs (first + j - first) 0) (h.frame_of (page_of_loan page t j))) yes_among ∙ ap (λ i. get_or fs i 0) back
 
-  all_append : (P : Transfer → Type 0) (xs : List Transfer) → All P xs → P t → All P (xs ++ t ∷ [])
-  all_append P [] a p zero d l = p
-  all_append P [] a p (suc k) d l = absurd (omega (arith, l))
-  all_append P (x ∷ xs) a p zero d l = a zero x (omega arith)
-  all_append P (x ∷ xs) a p (suc k) d l = all_append P xs (λ i e n. a (suc i) e (omega (arith, n))) p k d (omega (arith, l))
-
   abbrev HoldsNow : Transfer → Type 0
   HoldsNow = HoldsPages page m rs page_now frame_now
 
@@ -149,7 +144,7 @@ module _ (page : ℕ) (m : Memory) (rs : List Region) (t : Transfer) (ts : List 
   held_more = record {
     page_in = page_now;
     frame_of = frame_now;
-    each = subst (All HoldsNow) (sym weak_more) (all_append HoldsNow (weak_transfers ts)
+    each = subst (All HoldsNow) (sym weak_more) (all_more HoldsNow t (weak_transfers ts)
         (λ k d l. let u = get_or (weak_transfers ts) k d in let there = has_at (weak_transfers ts) k d l in let was = h.each k d l in record { pages = earlier_page u there was; frames = earlier_frame u there was; held = was.held })
         (record { pages = later_page; frames = later_frame; held = beside.held }));
   }

@@ -1,3 +1,4 @@
+pub mod Lists
 pub mod Places
 pub mod Lying
 pub mod Left
@@ -10,3 +11,10 @@ pub mod Owning
 pub mod Beside
 pub mod Fewer
 pub mod Holding
+pub mod Planning
+pub mod Matching
+pub mod Working
+pub mod Receiving
+pub mod Processes
+pub mod Backing
+pub mod Spaces

@@ -4,3 +4,6 @@ pub mod States
 pub mod Lent
 pub mod Owned
 pub mod Pages
+pub mod Pending
+pub mod Working
+pub mod Regions

@@ -3,4 +3,6 @@
 #![tactic(auto)]
 
 pub mod parts;
+pub mod regions;
 pub mod states;
+pub mod work;

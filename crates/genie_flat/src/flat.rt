@@ -10,7 +10,8 @@ ghost use Rattle.genie_model.specs.State.{boot, boot_device, boot_devices};
 
 use crate::machine::Machine;
 use genie_base::{Config, DeviceConfig, Event, Mark, NoMemory, PageBuffer, PageSize, Reply};
-use genie_tables::{Device, Process, table};
+use genie_plain_device::{Device, devices};
+use genie_tables::{Process, table};
 use std::alloc::Global;
 use std::marker::Model;
 
@@ -124,7 +125,7 @@ impl Flat {
         }
         match bytes.to_vec(self.machine.alloc) {
             Ok(rest) => {
-                table::give_input(&mut self.machine.devices, dev, rest);
+                devices::give_input(&mut self.machine.devices, dev, rest);
                 Ok(())
             }
             Err(_) => {

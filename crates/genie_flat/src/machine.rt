@@ -7,8 +7,9 @@ ghost use Rattle.genie_model.specs.Space.{tidy, region_from};
 ghost use Rattle.genie_model.specs.Tables.{entry};
 
 use genie_base::{Config, NoMemory, PageSize};
+use genie_plain_device::Device;
 use genie_tables::orphan::{orphan_numbered, store_in_orphan, tidy};
-use genie_tables::{Change, Device, Orphan, Process, Region, Transfer, table};
+use genie_tables::{Change, Orphan, Process, Region, Transfer, table};
 use std::alloc::Global;
 use std::marker::Model;
 

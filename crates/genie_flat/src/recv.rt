@@ -10,9 +10,10 @@ ghost use Rattle.genie_model.specs.Receiving.{header_reply, set_device, change_t
 use crate::machine::Machine;
 use genie_base::{NoMemory, Reply};
 use genie_model::Fate;
-use genie_tables::datagram::{is_valid_header, is_whole_header, len_in, size_of_header};
+use genie_plain_device::datagram::{is_valid_header, is_whole_header, len_in, size_of_header};
+use genie_plain_device::{Datagram, Device, devices};
 use genie_tables::transfers::{arrived, first_posted, numbered, turn_first};
-use genie_tables::{Datagram, Device, Turn, table};
+use genie_tables::{Turn, table};
 use std::alloc::Global;
 
 // Bytes behind others.
@@ -62,7 +63,7 @@ impl Machine {
     fn set_device(&mut self, dev: u32, v: Device)
         ensures { self.new ≡ set_device self.old dev v }
     {
-        table::receive_on(&mut self.devices, dev, v);
+        devices::receive_on(&mut self.devices, dev, v);
     }
 
     fn change_transfer(&mut self, number: u32, turn: &Turn) -> Result<(), NoMemory>

@@ -7,6 +7,7 @@ ghost use Rattle.genie_model.specs.Sending.{send, send_count, stage_count, next_
 
 use crate::machine::Machine;
 use genie_base::{NoMemory, Reply, part};
+use genie_plain_device::devices;
 use genie_tables::transfers::{first_queued, send_first, stage_first};
 use genie_tables::{Transfer, table};
 
@@ -123,7 +124,7 @@ impl Machine {
     {
         let k = self.send_count(dev, n);
         let bytes = self.next_part(dev, k)?;
-        table::send_on(&mut self.devices, dev, bytes.as_slice())?;
+        devices::send_on(&mut self.devices, dev, bytes.as_slice())?;
         send_first(self.transfers.as_mut_slice(), dev, u64::from(k));
         Ok(Reply::Sent { n: k })
     }

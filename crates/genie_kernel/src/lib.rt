@@ -13,3 +13,6 @@ pub use crate::kernel::Kernel;
 pub use crate::search::Search;
 pub use crate::transfer::{Change, Loans, Transfer};
 pub use crate::transfers::{MOST_PENDING, Transfers};
+
+#[cfg(test)]
+mod tests;

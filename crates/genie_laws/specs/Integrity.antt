@@ -113,8 +113,13 @@ IsCallOf t o = (o.number ≡ t.number) × (o.header ≡ header_bytes t.port t.fl
 abbrev pub IsAmong : List Accepted → ℕ → Transfer → Type 0
 IsAmong os d t = is_inward t.direction ≡ false → t.device ≡ d → is_ready t.phase ≡ true → Any (IsCallOf t) os
 
+-- how many bytes of the first one are sent
+abbrev pub moved_of : List Transfer → ℕ
+moved_of [] = 0
+moved_of (t ∷ ts) = t.moved
+
 -- The outputs that wait in the last state are the last ones. Of those before them, which are ready or at their end, the
--- device has sent the records whole, one after the other, and then a front of what waits.
+-- device has sent the records whole, one after the other, and then as much of the first that waits as that has moved.
 pub record SendsWhole (d : ℕ) (os : List Accepted) (last : State) : Type 0 where
   pub over : List Accepted
   pub waiting : List Accepted
@@ -126,11 +131,12 @@ pub record SendsWhole (d : ℕ) (os : List Accepted) (last : State) : Type 0 whe
   pub are_others : ArePayloads waiting others
   pub begun : List ℕ
   pub sent : sent_of last d ≡ records over payloads ++ begun
+  pub part : length begun ≡ moved_of (filter (waits_for d) last.transfers)
   pub left : List ℕ
   pub front : records waiting others ≡ begun ++ left
   pub ready : All (IsAmong over d) last.transfers
 
--- so it is in every run: no record is sent in part but that of the first output that waits
+-- so it is in every run
 abbrev pub OutputsAreSentWhole : Type 0
 OutputsAreSentWhole = (c : Config) (inputs : ℕ → List ℕ) (es : List Event) (rs : List Reply) (last : State) (d : ℕ) → Fits c → All (λ (e : Event). IsTrue (is_whole e)) es → Follows (boot c inputs) es rs last → SendsWhole d (outputs d (boot c inputs) es rs) last
 

@@ -1,13 +1,14 @@
 -- What devices take of their input: records, one after the other, each of which goes to at most one input call.
-use Rattle.std.specs.Prelude.{◌≡◌, ◌≢◌, ℕ, ◌<◌, Bool, true, false, not, ◌&&◌, nat_lt, IsTrue, List, [], ◌∷◌, ◌++◌, length, take, drop, slice_index, All, AllPairs, Option, None, Some, IfSome, ⊤}
+use Rattle.std.specs.Prelude.{◌≡◌, ◌≢◌, ◌⊎◌, ℕ, ◌-◌, ◌<◌, ◌≤◌, Bool, true, false, not, ◌&&◌, nat_lt, IsTrue, List, [], ◌∷◌, ◌++◌, length, take, drop, slice_index, All, AllPairs, Option, None, Some, IfSome, ⊤}
 use Rattle.std.specs.List.{Any}
+use Rattle.genie_base.specs.Bytes.{part}
 use Rattle.genie_base.specs.Configs.{Config, Fits}
 use Rattle.genie_base.specs.Events.{is_whole, mark_of}
 use Rattle.genie_base.specs.Headers.{size_of_header, is_whole_header, is_format, port_in, len_in, flow_in}
 use Rattle.genie_base.specs.Posted.{meets_flow}
 use Rattle.genie_base.specs.Transfers.{is_strong}
 use Rattle.genie_base.specs.declared.event.Event.{Event}
-use Rattle.genie_base.specs.declared.event.Event.TheVariants.{Finish}
+use Rattle.genie_base.specs.declared.event.Event.TheVariants.{Recv, Finish}
 use Rattle.genie_base.specs.declared.reply.Mark.{Mark}
 use Rattle.genie_base.specs.declared.reply.Note.{Note}
 use Rattle.genie_base.specs.declared.reply.Reply.{Reply}
@@ -22,7 +23,7 @@ use Rattle.genie_model.specs.Inputs.{address_or_zero}
 use Rattle.genie_model.specs.Ending.{region_of}
 use Rattle.genie_orderly.specs.Orderly.{IsOrderly}
 use Rattle.genie_orderly.specs.Steps.{is_refused}
-use Rattle.genie_laws.specs.Integrity.{late_region, start_in}
+use Rattle.genie_laws.specs.Integrity.{Landed, late_region, start_in}
 use Rattle.genie_model.specs.Receiving.{note_of, kept}
 use Rattle.genie_model.specs.Step.{step, Follows}
 use Rattle.genie_model.specs.declared.phase.Phase.{Phase}
@@ -113,9 +114,9 @@ pub record HasTaken (stream : List ℕ) (d : ℕ) (taken : List Taken) (s : Stat
   pub apart : AllPairs WentApart taken
   pub inputs : All (IsServed (is_early_at s d) taken header payload d) s.transfers
 
--- so it is in each state of a run, where the records that were taken stay, and each step may add some
+-- so it is in each state of a run, where the records that were taken stay, and each step adds at most one
 abbrev pub Takes : List ℕ → ℕ → List Taken → State → List Event → List Reply → Type 0
-Takes stream d taken s (e ∷ es) (r ∷ rs) = HasTaken stream d taken s × ((more : List Taken) × Takes stream d (taken ++ more) (step s e (mark_of r)).0 es rs)
+Takes stream d taken s (e ∷ es) (r ∷ rs) = HasTaken stream d taken s × ((more : List Taken) × (length more ≤ 1) × Takes stream d (taken ++ more) (step s e (mark_of r)).0 es rs)
 Takes stream d taken s es rs = HasTaken stream d taken s
 
 -- So each device takes the records of its input in their order, and a ready input has the front of one of them.
@@ -144,3 +145,41 @@ pub record StoresFront (s next : State) (answer : Reply) (t : Transfer) (region 
 abbrev pub DoneStoresRecords : Type 0
 DoneStoresRecords = (s : State) (k p : ℕ) (m : Mark) (t : Transfer) (region : Region) (r : Taken) → IsOrderly s → pending s k ≡ Some t → IsTrue (is_inward t.direction) → t.owner ≡ Some p → HasGot (is_early_at s t.device) t r → stores_in s p t t.class ≡ Some region
     → is_refused (step s (Finish k) m).1 ≡ false → StoresFront s (step s (Finish k) m).0 (step s (Finish k) m).1 t region r
+
+-- the input got one of these records, and this step stored its front
+abbrev pub StoresOne : List Taken → State → State → Reply → Transfer → Region → Type 0
+StoresOne taken s next answer t region = Any (λ (r : Taken). HasGot (is_early_at s t.device) t r × StoresFront s next answer t region r) taken
+
+-- whatever a `done` of an input stores in this state is the front of a record that its device has taken
+abbrev pub StoresTaken : State → Type 0
+StoresTaken s = (stream : List ℕ) (taken : List Taken) (k p : ℕ) (m : Mark) (t : Transfer) (region : Region) → HasTaken stream t.device taken s → pending s k ≡ Some t → IsTrue (is_inward t.direction) → t.owner ≡ Some p → stores_in s p t t.class ≡ Some region
+    → is_refused (step s (Finish k) m).1 ≡ false → StoresOne taken s (step s (Finish k) m).0 (step s (Finish k) m).1 t region
+
+abbrev pub DonesStoreTaken : Type 0
+DonesStoreTaken = (s : State) → IsOrderly s → StoresTaken s
+
+-- the byte is byte j of the payload of the record with which these bytes begin
+pub record IsPayloadByte (bytes : List ℕ) (j : ℕ) (byte : List ℕ) : Type 0 where
+  pub header : List ℕ
+  pub behind : List ℕ
+  pub whole : length header ≡ size_of_header header
+  pub split : bytes ≡ header ++ behind
+  pub within : j < len_in header
+  pub is : byte ≡ part j 1 behind
+
+-- what a receive step of device d landed at place x of region or orphan k is the byte, for that place of a weak input's
+-- buffer, of the record that comes behind those that were taken
+pub record LandedFromNext (stream : List ℕ) (taken : List Taken) (s : State) (d k x : ℕ) (byte : List ℕ) : Type 0 where
+  pub landed : Landed s d k x byte
+  pub left : List ℕ
+  pub next : Consists stream taken left
+  pub payload : IsPayloadByte left (x - landed.input.offset) byte
+
+-- a receive step in this state stores no bytes in regions and orphans but those of the record that comes next
+abbrev pub LandsNext : State → Type 0
+LandsNext s = (stream : List ℕ) (taken : List Taken) (d n : ℕ) (m : Mark) (k x : ℕ) → HasTaken stream d taken s
+    → (bytes_of (step s (Recv d n) m).0 k x 1 ≡ bytes_of s k x 1) ⊎ LandedFromNext stream taken s d k x (bytes_of (step s (Recv d n) m).0 k x 1)
+
+-- So the bytes that land in the region of a weak input on an early device are those of one record too.
+abbrev pub LandedBytesAreNext : Type 0
+LandedBytesAreNext = (s : State) → IsOrderly s → LandsNext s

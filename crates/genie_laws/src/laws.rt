@@ -1,6 +1,6 @@
 //! Laws of the flat machine.
 ghost use Rattle.genie_laws.specs.Integrity.{OutputsKeepIntegrity, OutputsAreSentWhole, InputsKeepIntegrity, CoveredBytesStay, WeakTransfersKeepBytes};
-ghost use Rattle.genie_laws.specs.Streams.{InputsGetRecords, DoneStoresRecords};
+ghost use Rattle.genie_laws.specs.Streams.{InputsGetRecords, DoneStoresRecords, DonesStoreTaken, LandedBytesAreNext};
 ghost use Rattle.genie_laws.specs.Laws.{RefusalsChangeNothing, LevelsStepAlike, ThresholdsStepAlike, RunsAlike, RunsCount, MovesAreNotLost};
 
 use genie_orderly::laws;
@@ -51,8 +51,8 @@ pub fn outputs_keep_integrity()
     laws::steps_stay_orderly();
 }
 
-/// No record is sent in part but that of the first output that waits: of the accepted outputs of a device the last ones
-/// wait, and the records of all others, the ready ones too, were sent whole.
+/// Of the accepted outputs of a device the last ones wait; the records of all others, the ready ones too, were sent whole,
+/// and then as many bytes as are moved of the first that waits.
 pub fn outputs_are_sent_whole()
     ensures { OutputsAreSentWhole }
 {
@@ -82,6 +82,17 @@ pub fn inputs_get_records()
 /// a weak input on an early device, where the bytes have landed before.
 pub fn done_stores_records()
     ensures { DoneStoresRecords }
+{}
+
+/// So whatever a `done` of an input stores is the front of a record that its device has taken.
+pub fn dones_store_taken()
+    ensures { DonesStoreTaken }
+{}
+
+/// The bytes that a receive step lands in the region of a weak input are those of the record that comes next.
+#[tactic(auto, using(crate::proofs::Streams::Landed::landed_bytes_are_next))]
+pub fn landed_bytes_are_next()
+    ensures { LandedBytesAreNext }
 {}
 
 /// Every event leaves a byte that a pending weak transfer covers before and after it, but where it is a write, a receive

@@ -4,7 +4,7 @@ use Rattle.genie_base.specs.declared.event.Event.{Event}
 use Rattle.genie_base.specs.declared.reply.Reply.{Reply}
 use Rattle.genie_host.specs.Host.{HostView}
 use Rattle.genie_laws.specs.Integrity.{SendsRecords, SendsWhole, KeepsByte, outputs}
-use Rattle.genie_laws.specs.Streams.{Takes}
+use Rattle.genie_laws.specs.Streams.{Takes, StoresTaken, LandsNext}
 use Rattle.genie_orderly.specs.Orderly.{IsOrderly}
 use Rattle.genie_model.specs.Pending.{pending}
 use Rattle.genie_model.specs.State.{State, Transfer}
@@ -15,12 +15,14 @@ use Rattle.genie_replay.specs.Outcome.{Ran, RanInPart, events_of}
 
 -- The state is orderly. What each device has sent is a front of the records of its outputs that were accepted so far,
 -- and those of all that don't wait any more are whole. In each state up to there it has taken records of its input, and a
--- ready input has the front of one of them.
+-- ready input has the front of one of them, which `done` stores; a receive step stores bytes of the one that comes next.
 pub record IsSound (inputs : ℕ → List ℕ) (start : State) (es : List Event) (rs : List Reply) (mid : State) : Type 0 where
   pub orderly : IsOrderly mid
   pub sent : (d : ℕ) → SendsRecords d (outputs d start es rs) mid
   pub whole : (d : ℕ) → SendsWhole d (outputs d start es rs) mid
   pub taken : (d : ℕ) → Takes (inputs d) d [] start es rs
+  pub stored : StoresTaken mid
+  pub landed : LandsNext mid
 
 -- From one state of a run to a later one, each byte that a weak transfer covers stays, or is stored in between.
 abbrev pub KeepsWeakBytes : State → List Event → List Reply → State → Type 0

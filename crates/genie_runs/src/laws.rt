@@ -15,8 +15,8 @@ pub fn scripts_run_alike()
 }
 
 /// Every state that a run reaches is orderly; its outputs keep integrity up to there, and are sent whole but for those that
-/// wait; its devices have taken records of their input, which ready inputs have; and bytes under weak transfers are kept
-/// from there on.
+/// wait; its devices have taken records of their input, one of which a ready input has and its `done` stores, and a receive
+/// step stores bytes of the next one; and bytes under weak transfers are kept from there on.
 pub fn runs_are_sound()
     ensures { RunsAreSound }
 {
@@ -24,6 +24,8 @@ pub fn runs_are_sound()
     laws::outputs_keep_integrity();
     laws::outputs_are_sent_whole();
     laws::inputs_get_records();
+    laws::dones_store_taken();
+    laws::landed_bytes_are_next();
     laws::weak_transfers_keep_bytes();
     scripts_keep_limits();
 }

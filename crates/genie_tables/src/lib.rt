@@ -1,10 +1,8 @@
-//! The tables of the plain machine: processes with their regions, what is left of regions, pending transfers and
-//! devices, each buffer as one list of bytes.
+//! The tables of the plain machine: processes with their regions, what is left of regions, and pending transfers, each
+//! buffer as one list of bytes.
 #![tactic(auto)]
 
 pub mod change;
-pub mod datagram;
-pub mod device;
 pub mod orphan;
 pub mod process;
 pub mod region;
@@ -13,8 +11,6 @@ pub mod transfer;
 pub mod transfers;
 
 pub use crate::change::{Change, Turn};
-pub use crate::datagram::Datagram;
-pub use crate::device::Device;
 pub use crate::orphan::Orphan;
 pub use crate::process::Process;
 pub use crate::region::{Purpose, Region};

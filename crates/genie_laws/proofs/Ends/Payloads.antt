@@ -1,11 +1,10 @@
 -- `done` of an input stores its payload at the start of its buffer.
-use Rattle.std.proofs.Common.{◌≡◌, ℕ, zero, suc, ◌+◌, ◌≤◌, Bool, true, false, ◌⊎◌, inl, inr, List, [], ◌∷◌, length, take, drop, replicate, refl, sym, ap, subst, ◌∙◌, eq-eqb, eqb-true, true≢false, arith}
-use Rattle.std.specs.Prelude.{Option, Some, None, IsTrue, not, ◌&&◌, ◌==◌, option_and_then, if◌then◌else◌}
+use Rattle.std.proofs.Common.{◌≡◌, ℕ, zero, suc, ◌+◌, ◌≤◌, Bool, true, false, inl, inr, List, [], ◌∷◌, length, take, replicate, refl, sym, ap, subst, ◌∙◌, eq-eqb, eqb-true, true≢false, arith}
+use Rattle.std.specs.Prelude.{Option, Some, None, not, ◌&&◌, ◌==◌, option_and_then, if◌then◌else◌}
 use Rattle.std.specs.Option.{option_map}
 use Rattle.std.proofs.lemmas.Bool.{cond_both, cond-true}
 use Rattle.std.proofs.lemmas.List.{length-take, length-replicate}
 use Rattle.genie_base.specs.Bytes.{overlaid, part}
-use Rattle.genie_base.specs.Lemmas.Overlaid.{length-overlaid}
 use Rattle.genie_base.specs.Transfers.{is_strong}
 use Rattle.genie_base.specs.declared.event.Event.TheVariants.{Finish}
 use Rattle.genie_base.specs.declared.region.RegionState.TheVariants.{Live}
@@ -15,7 +14,7 @@ use Rattle.genie_base.specs.declared.semantics.Direction.{Direction}
 use Rattle.genie_base.specs.declared.semantics.Direction.TheVariants.{Outward, Inward}
 use Rattle.genie_model.specs.State.{State, Region, Transfer}
 use Rattle.genie_model.specs.Space.{Outcome, tidy}
-use Rattle.genie_model.specs.Regions.{reach_of, write_reach_of, place_in, region_numbered, orphan_numbered, orphan_part, region_part, bytes_of, changed, change_region, with_bytes, with_state, put}
+use Rattle.genie_model.specs.Regions.{reach_of, write_reach_of, place_in, region_numbered, orphan_numbered, orphan_part, region_part, changed, change_region, with_bytes, with_state, put}
 use Rattle.genie_model.specs.Pending.{is_inward, is_early_at, is_numbered, pending}
 use Rattle.genie_model.specs.Inputs.{address_or_zero}
 use Rattle.genie_model.specs.Ending.{without_transfer, region_of, filled, after_landing, finish_copy, finish_share, finish_move, finish_weak_move, finish_input, finish_owned, finish_for, finish}
@@ -26,7 +25,7 @@ use Rattle.genie_orderly.specs.Lemmas.ChangedRegions.{InPlace, place_found, put_
 use Rattle.genie_orderly.specs.Lemmas.FoundRegions.{all_of, named_region, found_at, no_orphan_at, number_has}
 use Rattle.genie_orderly.specs.Orderly.{IsOrderly, IsTransfer, IsPlaced, Lies, LiesInRegion, LiesInOrphan}
 use Rattle.genie_orderly.specs.Steps.{is_refused}
-use Rattle.genie_laws.specs.Integrity.{late_region, start_in}
+use Rattle.genie_laws.specs.Integrity.{start_in}
 use Rattle.genie_laws.specs.Streams.{Taken, HasGot, stores_in, Tells, StoresFront, DoneStoresRecords}
 
 -- what is stored stands there

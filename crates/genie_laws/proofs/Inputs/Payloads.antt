@@ -13,12 +13,12 @@ part_taken (suc n) zero (b ∷ bytes) lt = refl
 part_taken (suc n) (suc i) (b ∷ bytes) lt = part_taken n i bytes (omega arith)
 
 -- the first bytes tell a header's size, however many follow
-front : (xs : List ℕ) (h : ℕ) (ys : List ℕ) (i : ℕ) → i < length (xs ++ take h ys) → slice_index (xs ++ take h ys) i ≡ slice_index (xs ++ ys) i
+pub front : (xs : List ℕ) (h : ℕ) (ys : List ℕ) (i : ℕ) → i < length (xs ++ take h ys) → slice_index (xs ++ take h ys) i ≡ slice_index (xs ++ ys) i
 front [] h ys i lt = get_or-take h ys i 0 (omega (arith, length-take h ys))
 front (x ∷ xs) h ys zero lt = refl
 front (x ∷ xs) h ys (suc i) lt = front xs h ys i (omega arith)
 
-size_least : (a b : ℕ) → 8 ≤ header_size a b
+pub size_least : (a b : ℕ) → 8 ≤ header_size a b
 size_least a b = cond_both ((a == 71) && (b == 69)) 12 8 (λ n. 8 ≤ n) (λ _. omega arith) (λ _. omega arith)
 
 -- a whole header tells its size as the bytes do that follow

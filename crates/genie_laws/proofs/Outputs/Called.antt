@@ -1,6 +1,6 @@
 -- Each pending output of a device is one of those that were accepted.
-use Rattle.std.proofs.Common.{◌≡◌, ◌⊎◌, inl, inr, ⊎_elim, ℕ, zero, suc, ◌<◌, Bool, true, false, List, [], ◌∷◌, ◌++◌, length, map, filter, get_or, All, append-nil, append_assoc, refl, sym, ap, subst, ◌∙◌, true≢false, eq-eqb, arith}
-use Rattle.std.specs.Prelude.{Option, IsTrue, not, ◌==◌, if◌then◌else◌, None, Some}
+use Rattle.std.proofs.Common.{◌≡◌, ℕ, Bool, true, false, List, [], ◌∷◌, ◌++◌, filter, All, append_assoc, refl, sym, ap, subst, ◌∙◌, true≢false, eq-eqb, arith}
+use Rattle.std.specs.Prelude.{Option, not, ◌==◌, if◌then◌else◌, None, Some}
 use Rattle.std.specs.List.{Any}
 use Rattle.std.proofs.lemmas.Bool.{cond_both, cond-true}
 use Rattle.std.proofs.lemmas.List.{length-append, get_or_append_left}
@@ -13,20 +13,18 @@ use Rattle.genie_base.specs.declared.event.Event.{Event}
 use Rattle.genie_base.specs.declared.event.Event.TheVariants.{Fork, Exit, Unmap, Protect, Write, Output, Input, Send, Recv, Finish, Cancel}
 use Rattle.genie_base.specs.declared.reply.Mark.{Mark}
 use Rattle.genie_base.specs.declared.reply.Reply.{Reply}
-use Rattle.genie_base.specs.declared.reply.Reply.TheVariants as reply
 use Rattle.genie_base.specs.declared.semantics.Class.{Class}
 use Rattle.genie_base.specs.declared.semantics.Class.TheVariants.{Copy, Share, Move, WeakMove}
-use Rattle.genie_model.specs.State.{State, Transfer, Device}
-use Rattle.genie_model.specs.Tables.{change, without}
+use Rattle.genie_model.specs.State.{State, Transfer}
+use Rattle.genie_model.specs.Tables.{change}
 use Rattle.genie_model.specs.Regions.{regions_at, reach_of}
 use Rattle.genie_model.specs.Pending.{is_inward, is_just, is_numbered, waits_for, first_queued, pending, add_transfer}
 use Rattle.genie_model.specs.Space.{Outcome, exit, accessible, spawned, region_from, is_move, disowned, is_posted_by}
 use Rattle.genie_model.specs.Outputs.{output_of}
 use Rattle.genie_model.specs.Inputs.{posted}
-use Rattle.genie_model.specs.Sending.{after_staging, after_sending, must_stage, send_count, send_next}
+use Rattle.genie_model.specs.Sending.{after_sending, must_stage, send_count, send_next}
 use Rattle.genie_model.specs.Ending.{without_transfer, region_of, finish_found, cancel_found}
 use Rattle.genie_model.specs.Step.{accept, perform, failed, may_fail, step, Follows}
-use Rattle.genie_model.specs.Lemmas.Lists.{Has, has_at}
 use Rattle.genie_model.specs.Lemmas.PendingCalls.{KeepsCall, sending_call}
 use Rattle.genie_model.specs.Lemmas.ReceiveSteps.{choice, recv_keeps}
 use Rattle.genie_model.specs.Lemmas.Steps.{outcome_so}

@@ -1,10 +1,10 @@
 -- The records that a device has sent whole are those of the outputs that don't wait any more.
-use Rattle.std.proofs.Common.{◌≡◌, ◌⊎◌, inl, inr, ⊎_elim, ℕ, zero, suc, ◌+◌, ◌-◌, ◌<◌, ◌≤◌, true, ◌==◌, AllPairs, List, [], ◌∷◌, ◌++◌, length, take, drop, map, filter, get_or, append-nil, append_assoc, refl, sym, ap, ap₂, subst, ◌∙◌, true≢false, arith}
+use Rattle.std.proofs.Common.{◌≡◌, ◌⊎◌, inl, inr, ⊎_elim, ℕ, zero, suc, ◌+◌, ◌<◌, ◌≤◌, true, ◌==◌, AllPairs, List, [], ◌∷◌, ◌++◌, length, drop, map, filter, get_or, append-nil, append_assoc, refl, sym, ap, ap₂, subst, ◌∙◌, true≢false, arith}
 use Rattle.std.specs.Prelude.{⊤, All, IsTrue}
 use Rattle.std.specs.List.{Any}
 use Rattle.std.proofs.lemmas.Bool.{cond_both, and_parts}
-use Rattle.std.proofs.lemmas.List.{length-append, length-take-le, length-drop, take_all}
-use Rattle.std.proofs.lemmas.List.Elements.{All-cons, All-head, All-tail, All-push}
+use Rattle.std.proofs.lemmas.List.{length-append, length-take-le, length-drop}
+use Rattle.std.proofs.lemmas.List.Elements.{All-head, All-tail, All-push}
 use Rattle.genie_base.specs.Bytes.{part}
 use Rattle.genie_base.specs.Events.{is_whole, mark_of}
 use Rattle.genie_base.specs.Records.{header_len, header_bytes}
@@ -17,15 +17,15 @@ use Rattle.genie_model.specs.declared.phase.Phase.{Phase}
 use Rattle.genie_model.specs.declared.phase.Phase.TheVariants.{Queued}
 use Rattle.genie_model.specs.Lemmas.Lists.{Has, has_at}
 use Rattle.genie_laws.proofs.Outputs.Called.{Called, run_called}
-use Rattle.genie_model.specs.Sending.{sent_of, record_of, unsent, after_staging}
+use Rattle.genie_model.specs.Sending.{sent_of, record_of, unsent}
 use Rattle.genie_model.specs.State.{State, Transfer, boot}
 use Rattle.genie_model.specs.Step.{step, Follows}
 use Rattle.genie_model.specs.Lemmas.SendQueues.{plain, queue, same_number}
 use Rattle.genie_orderly.specs.Orderly.{IsOrderly}
 use Rattle.genie_orderly.specs.Steps.{Stays, BootIsOrderly, RunsStayOrderly}
-use Rattle.genie_laws.specs.Integrity.{Accepted, accepted, outputs, states, HasPayload, IsPayload, ArePayloads, records, SendsRecords, SendsWhole, IsCallOf, IsAmong, OutputsAreSentWhole}
+use Rattle.genie_laws.specs.Integrity.{Accepted, accepted, outputs, states, HasPayload, ArePayloads, records, moved_of, IsCallOf, IsAmong, OutputsAreSentWhole}
 use Rattle.genie_laws.proofs.Outputs.ReceiveSteps.{Meets}
-use Rattle.genie_laws.proofs.Outputs.Records.{Waits, AreUnsent, AreWaiting, begun, begun_more, begun_none, header_length, HasLength, IsCall, Sends, sends_whole, moved_on}
+use Rattle.genie_laws.proofs.Outputs.Records.{AreWaiting, begun, begun_more, begun_none, header_length, HasLength, sends_whole}
 use Rattle.genie_laws.proofs.Outputs.Turns.{Turn, still, called, stages, sends, ends, turn_waiting}
 use Rattle.genie_laws.proofs.Outputs.Events.{step_goes}
 use Rattle.genie_laws.proofs.Outputs.Sent.{boot_meets, boot_sent, outputs_keep_integrity}
@@ -159,6 +159,11 @@ waiting_numbers d os ts are = of_numbers os (queue d ts) are ∙ queue_numbers t
     queue_numbers (t ∷ ts) = cond_both (waits_for d t) (plain t ∷ queue d ts) (queue d ts) (λ l. map (λ (t : Transfer). t.number) l ≡ map (λ (t : Transfer). t.number) (filter (waits_for d) (t ∷ ts)))
         (λ yes. rw yes (ap (λ l. t.number ∷ l) (queue_numbers ts))) (λ other. rw other (queue_numbers ts))
 
+-- what is sent of the first one that waits
+waiting_moved : (d : ℕ) (ts : List Transfer) → begun (queue d ts) ≡ moved_of (filter (waits_for d) ts)
+waiting_moved d [] = refl
+waiting_moved d (t ∷ ts) = cond_both (waits_for d t) (plain t ∷ queue d ts) (queue d ts) (λ l. begun l ≡ moved_of (filter (waits_for d) (t ∷ ts))) (λ waits. rw waits refl) (λ other. rw other (waiting_moved d ts))
+
 -- payloads of some and of others
 record Parted (over waiting : List Accepted) (payloads : List (List ℕ)) : Type 0 where
   first : List (List ℕ)
@@ -252,6 +257,7 @@ outputs_are_sent_whole boots stay follow c inputs es rs last d fits whole f =
       are_others = parts.are_others;
       begun = at.0;
       sent = at.1;
+      part = omega (arith, parts.count, count, ap length at.1, length-append (records h.over parts.first) at.0, waiting_moved d last.transfers);
       left = sends.left;
       front = at.2;
       ready = ready_over d h.over h.waiting last.transfers (follow c inputs es rs last fits whole f).transfers.order (waiting_numbers d h.waiting last.transfers h.are)

@@ -1,7 +1,6 @@
 -- What each event leaves of the records that a device has taken.
-use Rattle.std.proofs.Common.{◌≡◌, ◌≢◌, ⊎_elim, ℕ, ◌+◌, ◌<◌, ◌≤◌, Bool, true, false, List, [], ◌∷◌, ◌++◌, length, map, filter, get_or, All, append-nil, refl, sym, ap, subst, ◌∙◌, true≢false, ne_eqb, slice_set, arith}
-use Rattle.std.specs.Prelude.{Option, Some, None, IfSome, IsTrue, ⊤, not, ◌&&◌, ◌==◌, if◌then◌else◌}
-use Rattle.std.specs.List.{Any}
+use Rattle.std.proofs.Common.{◌≡◌, ◌≢◌, ⊎_elim, ℕ, ◌+◌, ◌<◌, ◌≤◌, Bool, true, false, List, [], ◌∷◌, ◌++◌, map, filter, get_or, All, append-nil, refl, sym, ap, subst, ◌∙◌, true≢false, ne_eqb, slice_set, arith, length}
+use Rattle.std.specs.Prelude.{Option, Some, None, IfSome, IsTrue, ⊤, not, ◌==◌, if◌then◌else◌}
 use Rattle.std.proofs.lemmas.Bool.{cases_eq, cond_both, and_parts}
 use Rattle.std.proofs.lemmas.Bool.Decides.{nat_tests}
 use Rattle.std.proofs.lemmas.List.Elements.{All-cons, All-head, All-tail, All-map, All-filter, All-push, All-weaker}
@@ -9,7 +8,6 @@ use Rattle.genie_base.specs.Posted.{Address}
 use Rattle.genie_base.specs.Transfers.{class_of}
 use Rattle.genie_base.specs.declared.event.Event.{Event}
 use Rattle.genie_base.specs.declared.event.Event.TheVariants.{Fork, Exit, Unmap, Protect, Write, Output, Input, Send, Recv, Finish, Cancel}
-use Rattle.genie_base.specs.declared.refusal.Refusal.{Refusal}
 use Rattle.genie_base.specs.declared.refusal.Refusal.TheVariants.{Proc}
 use Rattle.genie_base.specs.declared.reply.Mark.{Mark}
 use Rattle.genie_base.specs.declared.semantics.Class.{Class}
@@ -18,7 +16,7 @@ use Rattle.genie_base.specs.declared.semantics.Direction.{Direction}
 use Rattle.genie_base.specs.declared.semantics.Direction.TheVariants.{Outward, Inward}
 use Rattle.genie_model.specs.declared.phase.Phase.{Phase}
 use Rattle.genie_model.specs.declared.phase.Phase.TheVariants.{Queued, Posted, Moving, Ready}
-use Rattle.genie_model.specs.State.{State, Region, Transfer, Device}
+use Rattle.genie_model.specs.State.{State, Transfer, Device}
 use Rattle.genie_model.specs.Tables.{change, without, entry}
 use Rattle.genie_model.specs.Regions.{regions_at, reach_of}
 use Rattle.genie_model.specs.Refusing.{causes, refuse, is_within}
@@ -26,20 +24,20 @@ use Rattle.genie_model.specs.Pending.{is_inward, is_queued, is_just, is_numbered
 use Rattle.genie_model.specs.Space.{Outcome, exit, tidy, accessible, spawned, region_from, is_move, disowned, is_posted_by}
 use Rattle.genie_model.specs.Outputs.{output_of}
 use Rattle.genie_model.specs.Inputs.{posted}
-use Rattle.genie_model.specs.Sending.{change_device, with_sent, next_part, after_staging, after_sending, must_stage, send_count, send_next}
+use Rattle.genie_model.specs.Sending.{change_device, with_sent, next_part, after_sending, must_stage, send_count, send_next}
 use Rattle.genie_model.specs.Receiving.{recv}
 use Rattle.genie_model.specs.Ending.{without_transfer, region_of, finish_found, cancel_found}
 use Rattle.genie_model.specs.Step.{accept, perform, step, with_budget}
 use Rattle.genie_model.specs.Lemmas.Causes.{none_holds}
 use Rattle.genie_model.specs.Lemmas.Lists.{entry_set}
-use Rattle.genie_model.specs.Lemmas.PendingCalls.{KeepsCall, sending_call}
+use Rattle.genie_model.specs.Lemmas.PendingCalls.{sending_call}
 use Rattle.genie_model.specs.Lemmas.ReceiveSteps.{choice}
 use Rattle.genie_model.specs.Lemmas.Steps.{outcome_so}
 use Rattle.genie_model.specs.Lemmas.OnlyRegions.{SameBut, copies_like, remove_like, protect_like, stored_like, given_up_like, buffer_like, finish_for_like}
 use Rattle.genie_orderly.specs.Lemmas.NamingTransfers.{all_without}
 use Rattle.genie_orderly.specs.Orderly.{IsOrderly, IsTransfer, has_phase}
 use Rattle.genie_laws.specs.Streams.{Taken, Reads, HasFront, HasGot, WentElsewhere, HasBytes, IsServed, HasTaken}
-use Rattle.genie_laws.proofs.Streams.ReceiveSteps.{Leaves, recv_so}
+use Rattle.genie_laws.proofs.Streams.ReceiveSteps.{recv_so}
 
 later_call : (n m : ℕ) → n ≤ m → (o : Option ℕ) → IfSome o (λ k. k < n) → IfSome o (λ k. k < m)
 later_call n m le None h = tt
@@ -149,12 +147,12 @@ module _ (stream : List ℕ) (d : ℕ) (taken : List Taken) where
   after_cancel s k None h = h
   after_cancel s k (Some t) h = alike (without_transfer s k) _ (given_up_like (without_transfer s k) t.class (region_of (without_transfer s k) t)) (after_end s k h)
 
--- records that were taken stay, and some may come to them
+-- records that were taken stay, and one may come to them
 abbrev pub Goes : List ℕ → ℕ → List Taken → State → Type 0
-Goes stream d taken t = (more : List Taken) × HasTaken stream d (taken ++ more) t
+Goes stream d taken t = (more : List Taken) × (length more ≤ 1) × HasTaken stream d (taken ++ more) t
 
 pub still : (stream : List ℕ) (d : ℕ) (taken : List Taken) (t : State) → HasTaken stream d taken t → Goes stream d taken t
-still stream d taken t h = ([], subst (λ l. HasTaken stream d l t) (sym (append-nil taken)) h)
+still stream d taken t h = ([], omega arith, subst (λ l. HasTaken stream d l t) (sym (append-nil taken)) h)
 
 -- a receive step has a budget
 abbrev HasBudget : Event → Type 0
@@ -196,7 +194,7 @@ module _ (inputs : ℕ → List ℕ) (s : State) (o : IsOrderly s) (all : (x : �
 
   recv_goes : (dev n : ℕ) → 1 ≤ n → GoesTo (recv s dev n).0
   recv_goes dev n some = ⊎_elim
-      (λ (e : dev ≡ d). let r = recv_so s d (inputs d) (λ _. ⊤) taken o h (λ i c lt _. tt) n some in subst (λ i. GoesTo (recv s i n).0) (sym e) (r.more, r.has))
+      (λ (e : dev ≡ d). let r = recv_so s d (inputs d) (λ _. ⊤) taken o h (λ i c lt _. tt) n some in subst (λ i. GoesTo (recv s i n).0) (sym e) (r.more, r.few, r.has))
       (λ (other : dev ≢ d). still (inputs d) d taken (recv s dev n).0 (recv_other dev n other some))
       (cases_eq dev d)
 
@@ -224,7 +222,7 @@ module _ (inputs : ℕ → List ℕ) (s : State) (o : IsOrderly s) (all : (x : �
   performed e some = quiet (perform s e).0 refl
 
   accepted : (e : Event) → HasBudget e → GoesTo (accept s e).0
-  accepted e some = let r = performed e some in (r.0, alike (inputs d) d (taken ++ r.0) (perform s e).0 (tidy (perform s e).0) refl r.1)
+  accepted e some = let r = performed e some in (r.0, r.1, alike (inputs d) d (taken ++ r.0) (perform s e).0 (tidy (perform s e).0) refl r.2)
 
   -- one step
   pub step_goes : (e : Event) (m : Mark) → GoesTo (step s e m).0

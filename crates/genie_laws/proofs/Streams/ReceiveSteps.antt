@@ -1,24 +1,24 @@
 -- What a receive step of a device takes of its stream.
-use Rattle.std.proofs.Common.{◌≡◌, ◌≢◌, ◌⊎◌, inl, inr, ℕ, zero, suc, ◌+◌, ◌-◌, ◌<◌, ◌≤◌, Bool, true, false, List, [], ◌∷◌, ◌++◌, length, take, drop, get_or, find, All, AllPairs, append-nil, append_assoc, refl, sym, ap, ap₂, subst, ◌∙◌, true≢false, eqb-true, eq-eqb, lt-ltb, leb-true, arith}
-use Rattle.std.specs.Prelude.{Option, Some, None, IfSome, IsTrue, ⊤, not, ◌&&◌, ◌==◌, nat_le, nat_lt, slice_index, option_and_then, if◌then◌else◌}
-use Rattle.std.proofs.lemmas.Bool.{cond_both, and_parts, not-true, not_from_false}
+use Rattle.std.proofs.Common.{◌≡◌, ◌≢◌, ◌⊎◌, inl, inr, ℕ, zero, suc, ◌+◌, ◌<◌, ◌≤◌, Bool, true, false, List, [], ◌∷◌, ◌++◌, length, take, drop, get_or, All, AllPairs, append-nil, append_assoc, refl, sym, ap, ap₂, subst, ◌∙◌, true≢false, eqb-true, eq-eqb, lt-ltb, arith}
+use Rattle.std.specs.Prelude.{Option, Some, None, IfSome, IsTrue, ⊤, ◌==◌, nat_le, nat_lt, slice_index, option_and_then}
+use Rattle.std.proofs.lemmas.Bool.{cond_both, and_parts, not_from_false}
 use Rattle.std.proofs.lemmas.Bool.Decides.{nat_tests}
 use Rattle.std.proofs.lemmas.List.{length-append, length-take, take-append-drop}
 use Rattle.std.proofs.lemmas.List.Elements.{All-push, All-weaker}
 use Rattle.std.proofs.lemmas.List.Quantifiers.{all_pairs_push}
 use Rattle.genie_base.specs.Configs.{most}
-use Rattle.genie_base.specs.Headers.{header_taken, payload_taken, size_of_header, is_whole_header, is_valid_header, is_format, port_in, len_in, flow_in}
+use Rattle.genie_base.specs.Headers.{header_taken, size_of_header, is_whole_header, is_valid_header, is_format, port_in, len_in, flow_in}
 use Rattle.genie_base.specs.declared.config.Kind.{Kind}
 use Rattle.genie_base.specs.declared.reply.Reply.TheVariants as reply
 use Rattle.genie_model.specs.declared.fate.Fate.{Fate}
 use Rattle.genie_model.specs.declared.fate.Fate.TheVariants.{Matched, Skipped, Gathering}
 use Rattle.genie_model.specs.declared.phase.Phase.TheVariants.{Moving}
 use Rattle.genie_model.specs.State.{State, Transfer, Device, Datagram}
-use Rattle.genie_model.specs.Tables.{change, entry}
-use Rattle.genie_model.specs.Pending.{is_inward, is_early, is_early_at, early_device, is_moving, is_numbered, awaits, pending, first_posted}
+use Rattle.genie_model.specs.Tables.{entry}
+use Rattle.genie_model.specs.Pending.{is_inward, is_early, is_early_at, early_device, is_numbered, awaits, pending, first_posted}
 use Rattle.genie_model.specs.Space.{Outcome}
 use Rattle.genie_model.specs.Sending.{change_device}
-use Rattle.genie_model.specs.Receiving.{receiving, set_device, is_busy, with_phase, with_datagram, gathered, after_receiving, change_transfer, deliver, complete, landing, landed, land_in, land, kept, after_bytes, go_on, take_payload, datagram, skipped, match_header, begin_datagram, read_header, take_header, receive_record, receive, recv}
+use Rattle.genie_model.specs.Receiving.{receiving, set_device, is_busy, with_phase, with_datagram, gathered, after_receiving, change_transfer, deliver, complete, landing, landed, land_in, land, kept, after_bytes, go_on, take_payload, datagram, match_header, begin_datagram, read_header, take_header, receive_record, receive, recv}
 use Rattle.genie_model.specs.Lemmas.ReceiveSteps.{choice}
 use Rattle.genie_model.specs.Lemmas.Lists.{entry_set, entry_same, has_at, all_has, find_has, none_found, none_has}
 use Rattle.genie_model.specs.Lemmas.PendingCalls.{KeepsCall, change_remain, remain_order}
@@ -26,9 +26,9 @@ use Rattle.genie_orderly.specs.Lemmas.ChangedTransfers.{all_numbered}
 use Rattle.genie_orderly.specs.Lemmas.Receivers.{received_input}
 use Rattle.genie_model.specs.Lemmas.SendQueues.{same_number}
 use Rattle.genie_orderly.specs.Orderly.{IsInput, GoesToInput, IsUnderWay, SuitsDevice, IsOrderly, matched_to, receives_for, may_become}
-use Rattle.genie_laws.specs.Streams.{Taken, IsHeader, Begins, Consists, HasCome, HasOfNext, Reads, WentElsewhere, IsServed, WentApart, HasTaken}
+use Rattle.genie_laws.specs.Streams.{Taken, IsHeader, Consists, HasCome, HasOfNext, Reads, WentElsewhere, IsServed, WentApart, HasTaken}
 use Rattle.genie_laws.proofs.Streams.Records.{whole_length, Ended, ended, consists_more, come_on}
-use Rattle.genie_laws.proofs.Streams.Walks.{IsKnown, IsOne, One, none_some, same_some, moving_has, frame_one, past_one, begin_one, begin_beside, land_one, land_beside, end_one, end_beside, deliver_one, IsFirst, first_one}
+use Rattle.genie_laws.proofs.Streams.Walks.{IsKnown, One, none_some, same_some, moving_has, frame_one, past_one, begin_one, begin_beside, land_one, land_beside, end_one, end_beside, deliver_one, first_one}
 
 abbrev Rises : List Transfer → Type 0
 Rises ts = AllPairs (λ (t u : Transfer). t.number < u.number) ts
@@ -44,6 +44,7 @@ pub record Walk (s : State) (d : ℕ) (early : Bool) (Q : Transfer → Type 0) (
 -- what it leaves
 pub record Leaves (s : State) (d : ℕ) (stream : List ℕ) (Q : Transfer → Type 0) (taken : List Taken) (t : State) : Type 0 where
   pub more : List Taken
+  pub few : length more ≤ 1
   pub has : HasTaken stream d (taken ++ more) t
   pub next : t.next ≡ s.next
   pub other : All (λ (u : Transfer). u.device ≢ d → Q u) t.transfers
@@ -100,6 +101,7 @@ module _ (s : State) (d : ℕ) (stream : List ℕ) (early : Bool) (Q : Transfer 
     stay_so : (header payload : List ℕ) (aim : Option ℕ) (t : State) → Walks taken header payload aim t → IfSome (entry t.devices d) (Reads stream taken header payload) → is_early_at t d ≡ early → LeavesAt t
     stay_so header payload aim t w device soon = record {
       more = [];
+      few = omega arith;
       has = subst (λ l. HasTaken stream d l t) (sym (append-nil taken)) (walk_taken taken header payload aim t w calls apart device soon);
       next = w.next;
       other = λ i c lt. (w.each i c lt).other;
@@ -110,6 +112,7 @@ module _ (s : State) (d : ℕ) (stream : List ℕ) (early : Bool) (Q : Transfer 
     took_so : (r : Taken) (t : State) → Walks (taken ++ r ∷ []) [] [] None t → IfSome r.input (λ k. k < s.next) → ((k : ℕ) → r.input ≡ Some k → WentElsewhere taken k) → IfSome (entry t.devices d) (Reads stream (taken ++ r ∷ []) [] []) → is_early_at t d ≡ early → LeavesAt t
     took_so r t w call free device soon = record {
       more = r ∷ [];
+      few = omega arith;
       has = walk_taken (taken ++ r ∷ []) [] [] None t w (All-push (λ (q : Taken). IfSome q.input (λ k. k < s.next)) taken r calls call) (all_pairs_push WentApart taken r apart (λ i c lt k a b. free k b i c lt a)) device soon;
       next = w.next;
       other = λ i c lt. (w.each i c lt).other;
@@ -336,7 +339,7 @@ module _ (s : State) (d : ℕ) (stream : List ℕ) (Q : Transfer → Type 0) (ta
   }
 
   same_so : Leaves s d stream Q taken s
-  same_so = record { more = []; has = subst (λ l. HasTaken stream d l s) (sym (append-nil taken)) has; next = refl; other = other; others = λ e n. refl }
+  same_so = record { more = []; few = omega arith; has = subst (λ l. HasTaken stream d l s) (sym (append-nil taken)) has; next = refl; other = other; others = λ e n. refl }
 
   record_so : (n : ℕ) (v : Device) → entry s.devices d ≡ Some v → 1 ≤ n → v.is_bad ≡ false → (present : Option Datagram) → v.present ≡ present → Reads stream taken has.header has.payload v → IfSome present (IsUnderWay s d) → IfSome present (SuitsDevice s.config.page v) → Leaves s d stream Q taken (receive_record s d n v present).0
   record_so n v is some fine None e reads under suits =

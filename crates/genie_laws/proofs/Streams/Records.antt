@@ -1,6 +1,6 @@
 -- The records of a stream: headers that become whole, payloads that come in pieces, and one record more.
-use Rattle.std.proofs.Common.{◌≡◌, ◌≢◌, ◌⊎◌, ⊎_elim, ℕ, zero, suc, ◌+◌, ◌-◌, ◌<◌, ◌≤◌, true, false, List, [], ◌∷◌, ◌++◌, length, take, drop, append-nil, append_assoc, refl, sym, ap, ap₂, subst, ◌∙◌, All, leb-true, arith}
-use Rattle.std.specs.Prelude.{◌==◌, ◌&&◌, Option, Some, None, slice_index, nat_le}
+use Rattle.std.proofs.Common.{◌≡◌, ◌≢◌, ◌⊎◌, ⊎_elim, ℕ, zero, suc, ◌-◌, ◌≤◌, true, false, List, [], ◌∷◌, ◌++◌, length, take, drop, append-nil, append_assoc, refl, sym, ap, subst, ◌∙◌, leb-true, arith}
+use Rattle.std.specs.Prelude.{◌==◌, ◌&&◌, Option, Some, slice_index}
 use Rattle.std.specs.List.{Any}
 use Rattle.std.proofs.lemmas.Bool.{cond_both, leb-false}
 use Rattle.std.proofs.lemmas.List.{length-append, length-take, take_all, take-append-drop, get_or_append_left}
@@ -8,7 +8,7 @@ use Rattle.std.proofs.Math.Seq.{take-append_seam, drop-append_seam}
 use Rattle.std.proofs.lemmas.List.Elements.{All-push}
 use Rattle.genie_base.specs.Headers.{header_size, size_of_header, is_whole_header, header_taken, len_in}
 use Rattle.genie_laws.specs.Streams.{Taken, IsHeader, Begins, Consists, WentElsewhere}
-use Rattle.genie_laws.proofs.Inputs.Payloads.{whole_taken, whole_size}
+use Rattle.genie_laws.proofs.Inputs.Payloads.{whole_size}
 
 -- a header that a step makes whole has its size and no more
 pub whole_length : (n : ℕ) (gathered rest : List ℕ) → is_whole_header gathered ≡ false → is_whole_header (gathered ++ take (header_taken n gathered rest) rest) ≡ true → length (gathered ++ take (header_taken n gathered rest) rest) ≡ size_of_header (gathered ++ take (header_taken n gathered rest) rest)

@@ -1,5 +1,5 @@
 -- In every run devices take the records of their input.
-use Rattle.std.proofs.Common.{◌≡◌, ℕ, zero, suc, ◌+◌, List, [], ◌∷◌, ◌++◌, All, refl, sym, ap, subst, arith}
+use Rattle.std.proofs.Common.{◌≡◌, ℕ, zero, suc, ◌+◌, List, [], ◌∷◌, ◌++◌, All, refl, ap, arith}
 use Rattle.std.specs.Prelude.{Option, Some, None, IfSome, IsTrue}
 use Rattle.std.proofs.lemmas.List.Elements.{All-head, All-tail}
 use Rattle.genie_base.specs.Configs.{Config, DeviceConfig}
@@ -22,9 +22,9 @@ takes stay inputs d taken s [] [] last o all h whole f = h
 takes stay inputs d taken s (e ∷ es) (r ∷ rs) last o all h whole f =
     let t : State = (step s e (mark_of r)).0 in
     let Whole : Event → Type 0 = λ x. IsTrue (is_whole x) in
-    let next : AllTake inputs t = λ x. let old = all x in let goes = step_goes inputs s o all x old.0 old.1 e (mark_of r) in (old.0 ++ goes.0, goes.1) in
+    let next : AllTake inputs t = λ x. let old = all x in let goes = step_goes inputs s o all x old.0 old.1 e (mark_of r) in (old.0 ++ goes.0, goes.2) in
     let goes = step_goes inputs s o all d taken h e (mark_of r) in
-    (h, (goes.0, takes stay inputs d (taken ++ goes.0) t es rs last (stay s e (mark_of r) (All-head Whole e es whole) o) next goes.1 (All-tail Whole e es whole) f.1))
+    (h, (goes.0, goes.1, takes stay inputs d (taken ++ goes.0) t es rs last (stay s e (mark_of r) (All-head Whole e es whole) o) next goes.2 (All-tail Whole e es whole) f.1))
 takes stay inputs d taken s [] (r ∷ rs) last o all h whole f = absurd f
 takes stay inputs d taken s (e ∷ es) [] last o all h whole f = absurd f
 

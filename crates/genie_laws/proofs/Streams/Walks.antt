@@ -1,20 +1,18 @@
 -- What a receive step makes of the inputs of its device, while the payload of a record comes.
-use Rattle.std.proofs.Common.{◌≡◌, ◌≢◌, ℕ, zero, suc, ◌+◌, ◌-◌, ◌<◌, Bool, true, false, List, [], ◌∷◌, ◌++◌, length, take, get_or, find, All, AllPairs, refl, sym, ap, ap₂, subst, ◌∙◌, true≢false, eqb-true, eq-eqb, arith}
-use Rattle.std.specs.Prelude.{Option, Some, None, IfSome, IsTrue, ⊤, not, ◌&&◌, ◌==◌, nat_lt, min, if◌then◌else◌}
+use Rattle.std.proofs.Common.{◌≡◌, ◌≢◌, ℕ, zero, suc, ◌-◌, ◌<◌, Bool, true, false, List, [], ◌∷◌, ◌++◌, length, take, get_or, find, All, AllPairs, refl, sym, ap, ap₂, subst, ◌∙◌, true≢false, eqb-true, eq-eqb, arith}
+use Rattle.std.specs.Prelude.{Option, Some, None, not, ◌&&◌, ◌==◌, nat_lt, if◌then◌else◌}
 use Rattle.std.specs.Option.{option_map}
 use Rattle.std.proofs.lemmas.Bool.{and_parts}
 use Rattle.std.proofs.lemmas.List.{length-append, length-take}
-use Rattle.std.proofs.lemmas.List.Elements.{All-weaker}
 use Rattle.std.proofs.lemmas.List.Quantifiers.{Any-push}
 use Rattle.genie_base.specs.Headers.{port_in, len_in, flow_in}
 use Rattle.genie_base.specs.Posted.{meets, meets_flow}
 use Rattle.genie_base.specs.Transfers.{is_strong}
 use Rattle.genie_model.specs.declared.phase.Phase.{Phase}
 use Rattle.genie_model.specs.declared.phase.Phase.TheVariants.{Queued, Posted, Moving, Ready}
-use Rattle.genie_model.specs.State.{State, Transfer, Device}
-use Rattle.genie_model.specs.Tables.{change, entry}
-use Rattle.genie_model.specs.Pending.{is_inward, is_posted, is_moving, is_numbered, posted_for, awaits, first_posted}
-use Rattle.genie_model.specs.Receiving.{with_phase, with_datagram, gathered, after_receiving, fitting, note_of}
+use Rattle.genie_model.specs.State.{State, Transfer}
+use Rattle.genie_model.specs.Pending.{is_inward, is_posted, is_moving, posted_for, awaits, first_posted}
+use Rattle.genie_model.specs.Receiving.{with_phase, with_datagram, gathered, after_receiving, note_of}
 use Rattle.genie_model.specs.Lemmas.Lists.{has_at, all_has, find_has}
 use Rattle.genie_model.specs.Lemmas.SendQueues.{same_number}
 use Rattle.genie_orderly.specs.Orderly.{IsInput}

@@ -1,0 +1,10 @@
+//! Worked cases of the memory, as tests.
+#![tactic(auto)]
+
+pub mod bench;
+#[cfg(test)]
+mod outputs;
+#[cfg(test)]
+mod paging;
+#[cfg(test)]
+mod pools;
