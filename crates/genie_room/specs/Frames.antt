@@ -78,11 +78,11 @@ pub record CanBegin (page frames : ℕ) (t : flat.Transfer) : Type 0 where
 abbrev pub CallsCanBegin : Type 0
 CallsCanBegin = (k : Kernel) (e : Event) → IsGood k → IsTrue (is_whole e) → refuse (outline k) e ≡ None → OnCall (CanBegin k.config.page (available k.memory.frames)) (call_of (outline k) e)
 
--- as the address of an output says it
+-- the same of an output, by its address: it can have all that its pages may need, and four frames
 abbrev pub OutputsAreAvailable : Type 0
 OutputsAreAvailable = (k : Kernel) (p : ℕ) (sem : Semantics) (d port : ℕ) (flow : Option ℕ) (a n : ℕ) → IsGood k → refuse (outline k) (event.Output p sem d port flow a n) ≡ None → cost (class_of sem) Outward (span k.config.page a n) + 4 ≤ available k.memory.frames
 
--- and that of an input
+-- and of an input, by its own
 abbrev pub InputsAreAvailable : Type 0
 InputsAreAvailable = (k : Kernel) (p : ℕ) (sem : Semantics) (d port : ℕ) (flow addr : Option ℕ) (n : ℕ) → IsGood k → refuse (outline k) (event.Input p sem d port flow addr n) ≡ None → cost (class_of sem) Inward (span k.config.page (address_or_zero addr) n) + 4 ≤ available k.memory.frames
 

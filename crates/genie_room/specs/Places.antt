@@ -44,6 +44,7 @@ PlacesFit = (m : Memory) (processes : List (Option (List Region))) (hidden : Lis
 abbrev pub PagesAreCommitted : Type 0
 PagesAreCommitted = (k : Kernel) → pages_of k.spaces.processes ≡ committed (outline k)
 
+-- so a kernel has that room
 abbrev pub PlacesSuffice : Type 0
 PlacesSuffice = (k : Kernel) → IsGood k → HasPlaces k.memory (objects_of k.hidden)
 
@@ -58,8 +59,8 @@ pub record KeepsSizes (old new : Memory) : Type 0 where
 abbrev pub PlacesAreKept : Type 0
 PlacesAreKept = (k : Kernel) (m : Memory) → IsGood k → KeepsSizes k.memory m → IsSound m → FitsHidden m (objects_of k.hidden) → HasPlaces m (objects_of k.hidden)
 
--- there can be a page more for each of these frames of the system, beside those for free frames: so the frames of a buffer
--- can become pages
+-- there can be a page more for each of these frames of the system, beside those for free frames: so the frames of a
+-- buffer can become pages
 abbrev pub BuffersSuffice : Type 0
 BuffersSuffice = (m : Memory) (hidden : List ℕ) (frames : List ℕ) → HasPlaces m hidden → ((k : ℕ) → k < length frames → is_system (owner_at m.frames (slice_index_or frames k 0)) ≡ true) → AreApart frames → count_by is_there m.pages.pages + count_by is_free m.frames.owners + length frames ≤ m.pages.most
 
@@ -67,6 +68,7 @@ BuffersSuffice = (m : Memory) (hidden : List ℕ) (frames : List ℕ) → HasPla
 abbrev pub ObjectsSuffice : Type 0
 ObjectsSuffice = (objects : List (List Entry)) (processes : List (Option (List Region))) (hidden : List Hidden) → AreBacked objects (all_regions processes hidden) → AreFew processes hidden → length processes ≡ 16 → (pid : ℕ) → pid < 16 → length (regions_of (slice_index_or processes pid None)) + count_by (is_of pid) hidden < 32 → count_by (λ entries. not (is_absent entries)) objects < 512
 
--- the weak queue of a process and its regions that aren't Out are at most 32, so there is room in the queue for each of them
+-- the weak queue of a process and its regions that aren't Out are together at most 32, so there is room in the queue for
+-- each of these
 abbrev pub QueuesSuffice : Type 0
 QueuesSuffice = (k : Kernel) (p : ℕ) (regions : List Region) → IsGood k → entry k.spaces.processes p ≡ Some regions → length (slice_index_or k.queues p []) + count_by (λ (r : Region). not (is_out r.state)) regions ≤ 32
