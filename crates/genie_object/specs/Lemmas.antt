@@ -6,9 +6,11 @@ pub mod Dropped
 pub mod Emptied
 pub mod Entries
 pub mod Filled
+pub mod Forbidden
 pub mod Granted
 pub mod Laws
 pub mod Left
+pub mod Lent
 pub mod Lookup
 pub mod Named
 pub mod Naming
