@@ -1,5 +1,5 @@
 //! The receive step.
-ghost use Rattle.std.specs.Prelude.{◌≡◌, ◌+◌, ◌-◌, ◌<◌, ◌≤◌, ◌^◌, ◌++◌, length, slice_index, Some, IfOk, OnOk};
+ghost use Rattle.std.specs.Prelude.{◌≡◌, ◌+◌, ◌-◌, ◌<◌, ◌≤◌, ◌^◌, ◌++◌, ◌==◌, length, slice_index, None, Some, IfOk, OnOk, if◌then◌else◌};
 ghost use Rattle.genie_base.specs.Headers.{header_taken, payload_taken, port_in, flow_in};
 ghost use Rattle.genie_base.specs.Configs.{most};
 ghost use Rattle.genie_tables.specs.Changes.{turn_of, IsSmall};
@@ -229,6 +229,13 @@ impl Machine {
     }
 }
 
+// A datagram, if there is payload to come.
+fn with_payload(g: Datagram) -> Option<Datagram>
+    ensures { result ≡ (if g.len == 0 then None else Some g) }
+{
+    if g.len() == 0 { None } else { Some(g) }
+}
+
 impl Machine {
     // An early device matches the header.
     fn match_header(
@@ -254,7 +261,7 @@ impl Machine {
                 self.receive_payload(dev, left, v, g, h)
             }
             None => {
-                v.set_present(if len == 0 { None } else { Some(g) });
+                v.set_present(with_payload(g));
                 self.set_device(dev, v);
                 Ok(Reply::Dropped { port, flow, len })
             }
