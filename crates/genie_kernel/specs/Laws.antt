@@ -7,11 +7,15 @@ use Rattle.genie_base.specs.declared.event.Event.{Event}
 use Rattle.genie_demux.specs.Posted as demux
 use Rattle.genie_hiding.specs.Hidden.{objects_of, is_among}
 use Rattle.genie_input.specs.Pools.{PoolState}
+use Rattle.genie_object.specs.Memory.{Seen}
+use Rattle.genie_orderly.specs.Orderly.{IsOrderly}
 use Rattle.genie_object.specs.declared.memory.Memory.{Memory}
 use Rattle.genie_object.specs.Sound.{IsSound, FitsHidden}
 use Rattle.genie_object.specs.Touching.{KeepsLoans, Touches}
 use Rattle.genie_region.specs.declared.region.Region.{Region}
 use Rattle.genie_region.specs.Layouts.{extent}
+use Rattle.genie_base.specs.declared.reply.Note.{Note}
+use Rattle.genie_model.specs.declared.phase.Phase.{Phase}
 use Rattle.genie_model.specs.Regions.{fresh, changed_in, change_process}
 use Rattle.genie_model.specs.Refusing.{refuse}
 use Rattle.genie_model.specs.Space.{tidy}
@@ -19,7 +23,13 @@ use Rattle.genie_model.specs.State as flat
 use Rattle.genie_model.specs.Tables.{entry, change, without}
 use Rattle.genie_kernel.specs.declared.kernel.Kernel.{Kernel}
 use Rattle.genie_kernel.specs.declared.transfer.Transfer.{Transfer}
+use Rattle.genie_kernel.specs.declared.transfer.Change.TheVariants.{Progress}
 use Rattle.genie_kernel.specs.Backed.{AreGuarded}
+use Rattle.genie_kernel.specs.Changes.{changed_by}
+use Rattle.genie_kernel.specs.Counted.{AreCounted}
+use Rattle.genie_kernel.specs.Owners.{AreOwned}
+use Rattle.genie_kernel.specs.Held.{AreHeldPages}
+use Rattle.genie_kernel.specs.Planned.{ArePlanned, FitDevices}
 use Rattle.genie_kernel.specs.Calls.{has_number}
 use Rattle.genie_kernel.specs.Good.{IsGood}
 use Rattle.genie_kernel.specs.Kept.{Kept}
@@ -47,6 +57,10 @@ RefusesAlike = (k : Kernel) (b : Bytes) (e : Event) → refuse (state_of k b) e 
 -- the number of a new region doesn't hang on the bytes
 abbrev pub FreshIsAlike : Type 0
 FreshIsAlike = (k : Kernel) (b : Bytes) → fresh (state_of k b) ≡ fresh (outline k)
+
+-- whether a state is orderly doesn't hang on what is left of the inputs and what was sent
+abbrev pub RestsAreBlind : Type 0
+RestsAreBlind = (k : Kernel) (seen : Seen) (r q x y : ℕ → List ℕ) → IsOrderly (state_of k (record { seen = seen; rests = r; sents = x })) → IsOrderly (state_of k (record { seen = seen; rests = q; sents = y }))
 
 -- a call of the memory that keeps loans and changes no count leaves the kernel good, where it leaves the memory sound,
 -- the hidden regions fitting it, and no entry of a read-only region that permits writing
@@ -87,3 +101,15 @@ pub record Turns (p : Transfer → Bool) (g : Transfer → Transfer) (t : Transf
 
 abbrev pub TransfersTurn : Type 0
 TransfersTurn = (p : Transfer → Bool) (g : Transfer → Transfer) (t : Transfer) (ts : List Transfer) → find p ts ≡ Some t → Turns p g t ts
+
+-- with these transfers in place of its own, frames are lent and held in the kernel as before
+pub record KeepsLending (k : Kernel) (transfers : List Transfer) : Type 0 where
+  pub counted : AreCounted k.memory.frames.counts transfers k.pools
+  pub owners : AreOwned k.memory.frames.owners transfers k.pools
+  pub held : AreHeldPages k.config.page k.memory (owned_regions k.spaces.processes) transfers
+  pub planned : ArePlanned k.config.page k.memory.frames.owners k.devices transfers
+  pub fitting : FitDevices k.devices transfers
+
+-- how far a transfer has come is no matter of its loans
+abbrev pub ProgressKeepsLending : Type 0
+ProgressKeepsLending = (phase : Phase) (buffer : Option ℕ) (stored : ℕ) (note : Note) (k : Kernel) (n : ℕ) → IsGood k → KeepsLending k (change (has_number n) (changed_by (Progress phase buffer stored note)) k.transfers)

@@ -5,10 +5,13 @@ pub mod Asking
 pub mod Beside
 pub mod Blind
 pub mod Changing
+pub mod DeviceViews
 pub mod Fresh
 pub mod Keeping
+pub mod Lending
 pub mod OpenHandles
 pub mod Processes
+pub mod Progress
 pub mod Removing
 pub mod Searching
 pub mod Staying

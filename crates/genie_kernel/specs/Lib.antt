@@ -23,5 +23,6 @@ pub mod Steps
 pub mod Handles
 pub mod Booting
 pub mod Same
+pub mod Lending
 pub mod Laws
 pub mod Lemmas

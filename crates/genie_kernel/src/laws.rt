@@ -1,6 +1,7 @@
 //! Laws of kernels.
 ghost use Rattle.genie_kernel.specs.Handles.{CallsKeepHandles, CallsKeepOthers};
-ghost use Rattle.genie_kernel.specs.Laws.{ViewIsTidy, StatesAreAlike, LentFramesSuffice, RefusesAlike, FreshIsAlike, MemoryCallsKeepGood, MemoryCallsKeepLent, HiddenStay, GuardsStay, RegionsChange, OwnedGrows, PostedShrinks, TransfersTurn};
+ghost use Rattle.genie_kernel.specs.Laws.{ViewIsTidy, StatesAreAlike, LentFramesSuffice, RefusesAlike, FreshIsAlike, RestsAreBlind, MemoryCallsKeepGood, MemoryCallsKeepLent, HiddenStay, GuardsStay, RegionsChange, OwnedGrows, PostedShrinks, TransfersTurn, ProgressKeepsLending};
+ghost use Rattle.genie_kernel.specs.Lending.{CountsGrow, CountsShrink};
 ghost use Rattle.genie_kernel.specs.Steps.{AcceptedStep, StaysOrderly, AloneIsTold};
 
 use genie_orderly::laws::steps_stay_orderly;
@@ -27,6 +28,11 @@ pub fn refuses_alike()
 #[tactic(auto, using(crate::specs::Lemmas::Fresh::fresh_view))]
 pub fn fresh_is_alike()
     ensures { FreshIsAlike }
+{}
+
+/// A state stays orderly whatever is left of the inputs and was sent.
+pub fn rests_are_blind()
+    ensures { RestsAreBlind }
 {}
 
 /// An event that the outline accepts is one step of the flat machine, and what it steps to is orderly.
@@ -72,6 +78,18 @@ pub fn posted_shrinks()
 /// what it adds itself.
 pub fn transfers_turn()
     ensures { TransfersTurn }
+{}
+
+/// The counts of the frames fit the pending transfers once frames are lent and wired for one more, and once those of one
+/// that ends are given back.
+pub fn counts_follow_transfers()
+    ensures more { CountsGrow }
+    ensures less { CountsShrink }
+{}
+
+/// How far a transfer has come is no matter of its loans: whose the frames are, and which pages devices hold.
+pub fn progress_keeps_lending()
+    ensures { ProgressKeepsLending }
 {}
 
 /// A call on one handle leaves the handles of the configuration open in their directions.
