@@ -18,3 +18,4 @@ pub mod Receiving
 pub mod Processes
 pub mod Backing
 pub mod Spaces
+pub mod Premises

@@ -7,3 +7,4 @@ pub mod Pages
 pub mod Pending
 pub mod Working
 pub mod Regions
+pub mod Premises

@@ -1,0 +1,35 @@
+-- What the invariant gives of what other laws ask.
+use Rattle.std.specs.Prelude.{◌≡◌, ◌≢◌, ℕ, Bool, true, false, List, length, find, Option, None, Some}
+use Rattle.std.specs.List.{list_any}
+use Rattle.genie_frame.specs.declared.frame.Owner.TheVariants.{Nobody}
+use Rattle.genie_frame.specs.FrameTable.{IsShaped, owner_at, counts_at, is_held}
+use Rattle.genie_object.specs.declared.memory.Memory.{Memory}
+use Rattle.genie_object.specs.Memory.{seen}
+use Rattle.genie_region.specs.declared.region.Region.{Region}
+use Rattle.genie_model.specs.Tables.{without, entry}
+use Rattle.genie_kernel.specs.declared.kernel.Kernel.{Kernel}
+use Rattle.genie_kernel.specs.declared.transfer.Transfer.{Transfer}
+use Rattle.genie_kernel.specs.Good.{IsGood}
+use Rattle.genie_kernel.specs.Held.{weak_transfers}
+use Rattle.genie_kernel.specs.Regions.{has_id, owned_regions, regions_of}
+use Rattle.genie_changes.specs.Orphans.{OrphansLie}
+use Rattle.genie_changes.specs.Pages.{EachFrame}
+
+-- a device holds each frame of a weak transfer
+abbrev pub WeakFramesAreHeld : Type 0
+WeakFramesAreHeld = (k : Kernel) → IsGood k → EachFrame (λ f. is_held (counts_at k.memory.frames f) ≡ true) (weak_transfers k.transfers)
+
+-- nobody's frames show a page of bytes
+abbrev pub ShowsPages : ℕ → Memory → (ℕ → List ℕ) → Type 0
+ShowsPages page m s = (f : ℕ) → owner_at m.frames f ≡ Nobody → length (s f) ≡ page
+
+-- so they do of a sound memory
+abbrev pub NobodysFramesShow : Type 0
+NobodysFramesShow = (m : Memory) (slots : ℕ → List ℕ) → IsShaped m.frames.page m.frames.owners m.frames.counts m.frames.bytes → ShowsPages m.frames.page m (seen m slots).kept_bytes
+
+-- then the transfers that name an orphan lie in frames, and so do those without one of them
+abbrev pub OrphansLieInFrames : Type 0
+OrphansLieInFrames = (k : Kernel) (s : ℕ → List ℕ) (g : IsGood k) → ShowsPages k.config.page k.memory s → OrphansLie k.config.page s g.held.frame_of (owned_regions k.spaces.processes) k.transfers
+
+abbrev pub OthersLieInFrames : Type 0
+OthersLieInFrames = (k : Kernel) (s : ℕ → List ℕ) (p : Transfer → Bool) (g : IsGood k) → ShowsPages k.config.page k.memory s → OrphansLie k.config.page s g.held.frame_of (owned_regions k.spaces.processes) (without p k.transfers)

@@ -1,0 +1,14 @@
+//! What the invariant of a kernel gives of what other laws ask.
+ghost use Rattle.genie_changes.specs.Premises.{WeakFramesAreHeld, NobodysFramesShow, OrphansLieInFrames, OthersLieInFrames};
+
+/// A device holds each frame of a weak transfer.
+pub fn weak_frames_are_held()
+    ensures { WeakFramesAreHeld }
+{}
+
+/// Nobody's frames show a page of bytes; then the transfers that name orphans lie in frames, with one less too.
+pub fn orphans_lie()
+    ensures show { NobodysFramesShow }
+    ensures all { OrphansLieInFrames }
+    ensures others { OthersLieInFrames }
+{}
