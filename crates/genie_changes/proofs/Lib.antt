@@ -19,3 +19,5 @@ pub mod Processes
 pub mod Backing
 pub mod Spaces
 pub mod Premises
+pub mod Rising
+pub mod Leaving

@@ -8,3 +8,4 @@ pub mod Pending
 pub mod Working
 pub mod Regions
 pub mod Premises
+pub mod Removing

@@ -1,5 +1,6 @@
 //! What the invariant of a kernel gives of what other laws ask.
 ghost use Rattle.genie_changes.specs.Premises.{WeakFramesAreHeld, NobodysFramesShow, OrphansLieInFrames, OthersLieInFrames};
+ghost use Rattle.genie_changes.specs.Removing.{GoodTransfersRise, GoodIsOnlyIn};
 
 /// A device holds each frame of a weak transfer.
 pub fn weak_frames_are_held()
@@ -11,4 +12,10 @@ pub fn orphans_lie()
     ensures show { NobodysFramesShow }
     ensures all { OrphansLieInFrames }
     ensures others { OthersLieInFrames }
+{}
+
+/// Numbers of transfers rise, and a region of a process is only in it.
+pub fn numbers_differ()
+    ensures transfers { GoodTransfersRise }
+    ensures regions { GoodIsOnlyIn }
 {}
