@@ -18,7 +18,6 @@ use Rattle.genie_model.specs.Space.{without_region}
 use Rattle.genie_model.specs.State as flat
 use Rattle.genie_model.specs.Tables.{entry}
 use Rattle.genie_kernel.specs.Backed.{AreBacked, all_regions, has_object, hidden_region}
-use Rattle.genie_kernel.specs.Orphans.{is_owned}
 use Rattle.genie_kernel.specs.Regions.{has_id, owned_regions, regions_of, process_view, processes_view, region_view}
 use Rattle.genie_kernel.specs.Lemmas.Staying.{at_least}
 use Rattle.genie_changes.specs.Orphans.{IsWithout}

@@ -21,3 +21,4 @@ pub mod Spaces
 pub mod Premises
 pub mod Rising
 pub mod Leaving
+pub mod LeftPages

@@ -1,8 +1,6 @@
 -- What the invariant gives.
-use Rattle.std.proofs.Common.{◌≡◌, ◌≢◌, ℕ, ◌<◌, zero, suc, Bool, true, false, not, cond, List, [], ◌∷◌, refl, sym, ap, subst, arith, rules, ◌∙◌, ⊎_elim, inl, inr, length, filter, get_or}
-use Rattle.std.specs.Prelude.{Option, Some, None, All, find, unwrap_or, ◌&&◌, ◌==◌, if◌then◌else◌}
-use Rattle.std.specs.List.{list_any}
-use Rattle.std.proofs.lemmas.Bool.{cond_both}
+use Rattle.std.proofs.Common.{◌≡◌, ℕ, ◌<◌, zero, suc, Bool, true, false, not, cond, List, [], ◌∷◌, refl, sym, ap, subst, arith, rules, ◌∙◌, ⊎_elim, inl, inr, length, get_or}
+use Rattle.std.specs.Prelude.{Option, Some, None, unwrap_or, ◌&&◌, if◌then◌else◌}
 use Rattle.genie_base.specs.Transfers.{class_of, is_strong}
 use Rattle.genie_base.specs.declared.semantics.Class.{Class}
 use Rattle.genie_base.specs.declared.semantics.Class.TheVariants.{Copy, Share, Move, WeakMove}
@@ -10,7 +8,7 @@ use Rattle.genie_base.specs.declared.semantics.Direction.{Direction}
 use Rattle.genie_base.specs.declared.semantics.Direction.TheVariants as direction
 use Rattle.genie_frame.specs.declared.frame.Owner.{Owner}
 use Rattle.genie_frame.specs.declared.frame.Owner.TheVariants.{Free, Nobody}
-use Rattle.genie_frame.specs.FrameTable.{IsShaped, owner_at, counts_at, bytes_at, is_held}
+use Rattle.genie_frame.specs.FrameTable.{IsShaped, counts_at, bytes_at, is_held}
 use Rattle.genie_object.specs.declared.memory.Memory.{Memory}
 use Rattle.genie_object.specs.Memory.{seen, is_kept}
 use Rattle.genie_region.specs.declared.region.Region.{Region}
@@ -21,11 +19,11 @@ use Rattle.genie_kernel.specs.declared.kernel.Kernel.{Kernel}
 use Rattle.genie_kernel.specs.declared.transfer.Loans.{Loans}
 use Rattle.genie_kernel.specs.declared.transfer.Loans.TheVariants.{Nothing, Outward, Inward}
 use Rattle.genie_kernel.specs.declared.transfer.Transfer.{Transfer}
-use Rattle.genie_kernel.specs.Calls.{is_copy_input, is_strong_call, names_weakly, is_named, region_number, begins_at, addr_of}
+use Rattle.genie_kernel.specs.Calls.{is_copy_input, is_strong_call, is_named, region_number, begins_at}
 use Rattle.genie_kernel.specs.Good.{IsGood}
 use Rattle.genie_kernel.specs.Held.{HoldsPages, IsInFrame, region_named, page_of_loan, weak_transfers}
 use Rattle.genie_kernel.specs.Loans.{frames_of, first_of}
-use Rattle.genie_kernel.specs.Orphans.{covers, is_orphan, is_owned}
+use Rattle.genie_kernel.specs.Orphans.{covers, is_owned}
 use Rattle.genie_kernel.specs.Planned.{Lends, LendsOut, LendsIn, LendsInput, LendsRange, is_early_device}
 use Rattle.genie_kernel.specs.Regions.{has_id, owned_regions}
 use Rattle.genie_kernel.specs.Lemmas.Staying.{weak_held, weak_there}
@@ -59,10 +57,10 @@ keeps_none Share d e = refl
 keeps_none Move d e = refl
 keeps_none WeakMove d e = refl
 
-begins_in : (t : Transfer) → is_strong_call t ≡ false → begins_at t ≡ t.offset
+pub begins_in : (t : Transfer) → is_strong_call t ≡ false → begins_at t ≡ t.offset
 begins_in t weak = ap (λ (b : Bool). unwrap_or (if b then Some t.addr else None) t.offset) (keeps_none (class_of t.sem) t.dir weak)
 
-abbrev LendsFrom : ℕ → ℕ → Transfer → Loans → Type 0
+abbrev pub LendsFrom : ℕ → ℕ → Transfer → Loans → Type 0
 LendsFrom page at t loans = LendsRange page at t.len (frames_of loans) (first_of loans) t.len
 
 out_range : (page : ℕ) (t : Transfer) (loans : Loans) → LendsOut page t loans → LendsFrom page (begins_at t) t loans
@@ -75,7 +73,7 @@ in_range page t Nothing h = absurd h
 in_range page t (Outward p) h = absurd h
 in_range page t (Inward p) h = record { pages = h.pages; begins = h.begins; length_kept = refl }
 
-weak_range : (page : ℕ) (owners : List Owner) (early : Bool) (t : Transfer) (d : Direction) → is_strong_call t ≡ false → Lends page owners early t d → LendsFrom page (begins_at t) t t.loans
+pub weak_range : (page : ℕ) (owners : List Owner) (early : Bool) (t : Transfer) (d : Direction) → is_strong_call t ≡ false → Lends page owners early t d → LendsFrom page (begins_at t) t t.loans
 weak_range page owners early t direction.Outward weak h = out_range page t t.loans h
 weak_range page owners early t direction.Inward weak h = in_range page t t.loans (subst (LendsInput page owners early t) weak h)
 
@@ -83,7 +81,7 @@ and_first : (a b : Bool) → (a && b) ≡ true → a ≡ true
 and_first true b e = refl
 and_first false b e = absurd (cc)
 
-weak_has : (t : Transfer) (ts : List Transfer) → is_strong_call t ≡ false → Has t ts → Has t (weak_transfers ts)
+pub weak_has : (t : Transfer) (ts : List Transfer) → is_strong_call t ≡ false → Has t ts → Has t (weak_transfers ts)
 weak_has t [] weak h = absurd h
 weak_has t (x ∷ ts) weak (inl same) =
     let is : is_strong_call x ≡ false = ap is_strong_call same ∙ weak in
@@ -96,7 +94,7 @@ just_is : (o : Option ℕ) (j : ℕ) → is_just o j ≡ true → o ≡ Some j
 just_is None j e = absurd (cc)
 just_is (Some n) j e = let is : n ≡ j = grind (arith, rules, e) in ap (λ m. Some m) is
 
-named_region : (t : Transfer) (j : ℕ) → is_named t.region j ≡ true → region_number t ≡ Some j
+pub named_region : (t : Transfer) (j : ℕ) → is_named t.region j ≡ true → region_number t ≡ Some j
 named_region t j e = just_is (region_number t) j e
 
 module _ (k : Kernel) (s : ℕ → List ℕ) (g : IsGood k) (shows : ShowsPages k.config.page k.memory s) where

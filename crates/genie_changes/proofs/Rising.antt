@@ -1,10 +1,10 @@
 -- What the invariant gives of numbers.
-use Rattle.std.proofs.Common.{◌≡◌, ◌≢◌, ℕ, ◌+◌, ◌<◌, zero, suc, Bool, true, false, not, cond, List, [], ◌∷◌, ◌++◌, refl, sym, ap, ap₂, subst, arith, rules, ◌∙◌, ⊎_elim, inl, inr, length, map, get_or}
-use Rattle.std.specs.Prelude.{Option, Some, None, All, AllPairs, find, flat_map, ◌==◌, ◌||◌}
+use Rattle.std.proofs.Common.{◌≡◌, ◌≢◌, ℕ, zero, suc, true, false, List, [], ◌∷◌, ◌++◌, refl, ap, ap₂, subst, arith, rules, ⊎_elim, inl, inr, length, map, get_or}
+use Rattle.std.specs.Prelude.{Option, Some, None, AllPairs, flat_map, ◌||◌}
 use Rattle.std.specs.List.{list_any}
 use Rattle.std.proofs.lemmas.Bool.{cases_Bool}
 use Rattle.genie_region.specs.declared.region.Region.{Region}
-use Rattle.genie_model.specs.Lemmas.Lists.{Has, has_left, has_right, any_has, pairs_head, pairs_tail}
+use Rattle.genie_model.specs.Lemmas.Lists.{Has, has_left, has_right, pairs_head, pairs_tail}
 use Rattle.genie_model.specs.State as flat
 use Rattle.genie_model.specs.Tables.{entry}
 use Rattle.genie_orderly.specs.Orderly.{region_numbers, orphan_numbers}
@@ -12,7 +12,7 @@ use Rattle.genie_kernel.specs.declared.kernel.Kernel.{Kernel}
 use Rattle.genie_kernel.specs.declared.transfer.Transfer.{Transfer}
 use Rattle.genie_kernel.specs.Calls.{first_waiting}
 use Rattle.genie_kernel.specs.Good.{IsGood}
-use Rattle.genie_kernel.specs.Regions.{has_id, owned_regions, regions_of, process_view, processes_view, region_view}
+use Rattle.genie_kernel.specs.Regions.{has_id, regions_of, process_view, processes_view, region_view}
 use Rattle.genie_kernel.specs.Transfers.{transfer_view}
 use Rattle.genie_kernel.specs.View.{no_bytes, outline}
 use Rattle.genie_changes.specs.Removing.{TransfersRise, IsOnlyIn}

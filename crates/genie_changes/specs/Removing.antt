@@ -1,5 +1,5 @@
 -- Laws of a region that goes: which regions are left, and what the view and the parts of the invariant make of that.
-use Rattle.std.specs.Prelude.{◌≡◌, ◌≢◌, ℕ, ◌==◌, ◌<◌, Bool, true, false, not, List, [], length, map, filter, find, AllPairs, All, Option, None, Some, slice_set, slice_index_or}
+use Rattle.std.specs.Prelude.{◌≡◌, ◌≢◌, ℕ, ◌==◌, ◌<◌, true, false, not, List, [], length, map, filter, find, AllPairs, All, Option, Some, slice_set, slice_index_or}
 use Rattle.std.specs.List.{list_any}
 use Rattle.genie_hiding.specs.declared.hidden.Hidden.{Hidden}
 use Rattle.genie_object.specs.declared.objects.Entry.{Entry}

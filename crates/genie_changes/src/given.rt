@@ -1,5 +1,5 @@
 //! What the invariant of a kernel gives of what other laws ask.
-ghost use Rattle.genie_changes.specs.Premises.{WeakFramesAreHeld, NobodysFramesShow, OrphansLieInFrames, OthersLieInFrames};
+ghost use Rattle.genie_changes.specs.Premises.{WeakFramesAreHeld, NobodysFramesShow, OrphansLieInFrames, OthersLieInFrames, RegionsLeavePages};
 ghost use Rattle.genie_changes.specs.Removing.{GoodTransfersRise, GoodIsOnlyIn};
 
 /// A device holds each frame of a weak transfer.
@@ -18,4 +18,9 @@ pub fn orphans_lie()
 pub fn numbers_differ()
     ensures transfers { GoodTransfersRise }
     ensures regions { GoodIsOnlyIn }
+{}
+
+/// Where a region goes its pages stay under the loans on them, with their bytes.
+pub fn regions_leave_pages()
+    ensures { RegionsLeavePages }
 {}
