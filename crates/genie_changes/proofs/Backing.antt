@@ -1,6 +1,6 @@
 -- The parts of what is true of a kernel that speak of regions, with one more, one less, one changed.
-use Rattle.std.proofs.Common.{◌≡◌, ◌≢◌, ℕ, ◌+◌, ◌<◌, ◌≤◌, zero, suc, Bool, true, false, not, cond, List, [], ◌∷◌, ◌++◌, refl, sym, ap, subst, arith, rules, ◌∙◌, ⊎_elim, inl, inr, length, map, filter, get_or, set}
-use Rattle.std.specs.Prelude.{Option, Some, None, All, find, sum_by, count_by, if◌then◌else◌, ◌==◌, ◌&&◌}
+use Rattle.std.proofs.Common.{◌≡◌, ◌≢◌, ℕ, ◌+◌, ◌<◌, ◌≤◌, Bool, true, false, not, cond, List, [], ◌∷◌, refl, sym, ap, subst, arith, rules, ◌∙◌, ⊎_elim, inl, inr, length, map, filter, get_or, set}
+use Rattle.std.specs.Prelude.{Option, Some, None, All, find, count_by, if◌then◌else◌, ◌==◌, ◌&&◌}
 use Rattle.std.specs.List.{list_any}
 use Rattle.std.specs.Option.{option_map}
 use Rattle.std.proofs.lemmas.Bool.{cases_eq}
@@ -21,7 +21,7 @@ use Rattle.genie_kernel.specs.Backed.{AreFew, AreBacked, AreGuarded, IsGuarded, 
 use Rattle.genie_kernel.specs.Calls.{names_weakly, region_number, is_strong_call}
 use Rattle.genie_kernel.specs.Held.{AreHeldPages, HoldsPages, IsInFrame, region_named, page_of_loan, weak_transfers}
 use Rattle.genie_kernel.specs.Loans.{frames_of}
-use Rattle.genie_kernel.specs.Regions.{has_id, owned_regions, regions_of, with_changed}
+use Rattle.genie_kernel.specs.Regions.{has_id, owned_regions, with_changed}
 use Rattle.genie_kernel.specs.Lemmas.Staying.{at_least}
 use Rattle.genie_changes.specs.Regions.{with_added, without_number, MakesObject, FindsNamed, object_in}
 use Rattle.genie_changes.proofs.Matching.{one_if}

@@ -1,6 +1,6 @@
 -- One transfer more.
 use Rattle.std.proofs.Common.{◌≡◌, ◌≢◌, ℕ, take, ◌+◌, Bool, true, false, not, cond, List, [], ◌∷◌, ◌++◌, refl, sym, ap, ap₂, arith, rules, ◌∙◌, inl, inr, length, map, filter}
-use Rattle.std.specs.Prelude.{Option, Some, None, find, flat_map, ◌&&◌, ◌||◌, ◌==◌, if◌then◌else◌, nat_le, nat_lt}
+use Rattle.std.specs.Prelude.{Option, Some, None, flat_map, ◌&&◌, ◌==◌, if◌then◌else◌, nat_le, nat_lt}
 use Rattle.std.specs.Option.{option_map}
 use Rattle.std.specs.List.{list_any}
 use Rattle.genie_base.specs.declared.semantics.Direction.{Direction}

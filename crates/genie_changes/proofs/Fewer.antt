@@ -1,14 +1,12 @@
 -- The pages that devices hold, with one transfer less.
-use Rattle.std.proofs.Common.{◌≡◌, ℕ, zero, suc, Bool, true, false, not, cond, List, [], ◌∷◌, arith, filter, get_or}
-use Rattle.std.specs.Prelude.{Option, Some, None, All}
-use Rattle.genie_frame.specs.FrameTable.{counts_at, is_held}
+use Rattle.std.proofs.Common.{ℕ, zero, suc, Bool, true, false, not, cond, List, [], ◌∷◌, arith, filter}
+use Rattle.std.specs.Prelude.{All}
 use Rattle.genie_object.specs.declared.memory.Memory.{Memory}
 use Rattle.genie_region.specs.declared.region.Region.{Region}
 use Rattle.genie_model.specs.Tables.{without}
 use Rattle.genie_kernel.specs.declared.transfer.Transfer.{Transfer}
 use Rattle.genie_kernel.specs.Calls.{is_strong_call}
-use Rattle.genie_kernel.specs.Held.{AreHeldPages, HoldsPages, IsInFrame, region_named, page_of_loan, weak_transfers}
-use Rattle.genie_kernel.specs.Loans.{frames_of}
+use Rattle.genie_kernel.specs.Held.{AreHeldPages, HoldsPages}
 
 module _ {X : Type 0} (P : X → Type 0) where
   all_first : (b : Bool) (x : X) (xs ys : List X) → All P (cond b (x ∷ xs) xs) → (All P xs → All P ys) → All P (cond b (x ∷ ys) ys)

@@ -143,7 +143,7 @@ object_place s page o n x some full l =
     ∙ place_in_frames (s o) page frames j (x % page) (λ i h. full (get_or frames i 0)) (omega (arith, below, long)) (mod_below x page some)
     ∙ ap (λ i. get_or (s o i) (x % page) 0) (get_or-range_with_len 0 n j 0 below ∙ start)
 
-object_length : (s : ℕ → List ℕ) (page a n : ℕ) → ((i : ℕ) → length (s i) ≡ page) → length (flat_map s (range_with_len a n)) ≡ n * page
+pub object_length : (s : ℕ → List ℕ) (page a n : ℕ) → ((i : ℕ) → length (s i) ≡ page) → length (flat_map s (range_with_len a n)) ≡ n * page
 object_length s page a zero full = omega arith
 object_length s page a (suc n) full = let one = full a in let rest = object_length s page (a + 1) n full in let joined = length-append (s a) (flat_map s (range_with_len (a + 1) n)) in omega (arith, one, rest, joined)
 

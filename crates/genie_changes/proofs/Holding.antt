@@ -1,5 +1,5 @@
 -- The pages that devices hold, over another memory, and once a region is removed.
-use Rattle.std.proofs.Common.{◌≡◌, ◌≢◌, ℕ, true, List, refl, sym, ap, subst, ◌∙◌, get_or, ⊎_elim}
+use Rattle.std.proofs.Common.{◌≡◌, ◌≢◌, ℕ, List, refl, sym, ap, subst, ◌∙◌, get_or, ⊎_elim}
 use Rattle.std.specs.Prelude.{Option, Some, None, find}
 use Rattle.std.proofs.lemmas.Bool.{cases_eq}
 use Rattle.genie_object.specs.declared.memory.Memory.{Memory}

@@ -18,3 +18,7 @@ pub mod Receiving
 pub mod Processes
 pub mod Backing
 pub mod Spaces
+pub mod Premises
+pub mod Rising
+pub mod Leaving
+pub mod LeftPages

@@ -1,5 +1,5 @@
 -- A list with one element more at its end.
-use Rattle.std.proofs.Common.{◌≡◌, ℕ, ◌+◌, ◌<◌, zero, suc, Bool, true, false, cond, List, [], ◌∷◌, ◌++◌, refl, sym, ap, arith, ◌∙◌, inl, inr, map, length}
+use Rattle.std.proofs.Common.{◌≡◌, zero, suc, Bool, true, false, cond, List, [], ◌∷◌, ◌++◌, refl, sym, ap, arith, ◌∙◌, inl, inr, map}
 use Rattle.std.specs.Prelude.{Option, Some, None, find, All, IfSome, ◌||◌}
 use Rattle.std.specs.List.{list_any}
 use Rattle.genie_model.specs.Lemmas.Lists.{Has}

@@ -1,6 +1,6 @@
 -- The posted inputs, and what devices do for which transfer, with one transfer less and with one more.
-use Rattle.std.proofs.Common.{◌≡◌, ℕ, ◌+◌, ◌<◌, ◌≤◌, Bool, true, false, not, cond, List, [], ◌∷◌, ◌++◌, refl, sym, ap, subst, arith, rules, ◌∙◌, map, filter, length, get_or}
-use Rattle.std.specs.Prelude.{Option, Some, None, All, AllPairs, IfSome, is_some, find, count_by, ◌&&◌, ◌==◌, if◌then◌else◌}
+use Rattle.std.proofs.Common.{◌≡◌, ℕ, ◌<◌, ◌≤◌, Bool, true, false, not, cond, List, [], ◌∷◌, ◌++◌, refl, sym, ap, subst, arith, rules, ◌∙◌, map, filter, length, get_or}
+use Rattle.std.specs.Prelude.{Option, Some, None, AllPairs, IfSome, is_some, find, count_by, ◌&&◌, ◌==◌, if◌then◌else◌}
 use Rattle.std.proofs.lemmas.List.Elements.{filter-append}
 use Rattle.std.proofs.lemmas.List.Sums.{sum_by-append, sum_by-cons}
 use Rattle.genie_base.specs.Records.{header_len}
@@ -14,7 +14,7 @@ use Rattle.genie_model.specs.Lemmas.Lists.{Has, or_next, has_at, find_append}
 use Rattle.genie_model.specs.Tables.{without, entry}
 use Rattle.genie_kernel.specs.declared.transfer.Transfer.{Transfer}
 use Rattle.genie_kernel.specs.Calls.{has_number, first_waiting, receiver, waits_for, receives_from, has_arrived}
-use Rattle.genie_kernel.specs.Matching.{ArePosted, AreSending, AreReceiving, HaveArrived, IsSending, IsSendingFor, IsIdle, IsStored, is_posted_call, posted_as, has_buffer, has_waiting, has_filling, is_filling_pool, room_in}
+use Rattle.genie_kernel.specs.Matching.{ArePosted, AreSending, AreReceiving, HaveArrived, IsSending, IsStored, is_posted_call, posted_as, has_buffer, has_waiting, room_in}
 use Rattle.genie_kernel.specs.Planned.{is_early_device}
 use Rattle.genie_kernel.specs.Lemmas.Beside.{find_beside, filter_beside, sum_beside}
 use Rattle.genie_kernel.specs.Lemmas.Removing.{posted_left}

@@ -1,14 +1,14 @@
 -- The regions of all processes where those of one are others.
-use Rattle.std.proofs.Common.{◌≡◌, ◌≢◌, ℕ, ◌+◌, ◌<◌, ◌≤◌, zero, suc, Bool, true, false, not, cond, List, [], ◌∷◌, ◌++◌, refl, sym, ap, ap₂, subst, arith, rules, ◌∙◌, length, map, filter, get_or, set}
-use Rattle.std.specs.Prelude.{Option, Some, None, All, find, sum_by, count_by, nat_le, if◌then◌else◌, ◌==◌}
+use Rattle.std.proofs.Common.{◌≡◌, ℕ, ◌+◌, ◌≤◌, zero, suc, Bool, true, false, cond, List, [], ◌∷◌, ◌++◌, refl, sym, ap, subst, arith, ◌∙◌, length, filter, set}
+use Rattle.std.specs.Prelude.{Option, Some, None, All, find, sum_by, nat_le, if◌then◌else◌, ◌==◌}
 use Rattle.std.specs.Option.{option_map, option_or}
 use Rattle.std.proofs.lemmas.Bool.{cond_both}
 use Rattle.std.proofs.lemmas.List.Folds.{find-append}
 use Rattle.std.proofs.lemmas.List.Sums.{sum_by-append, sum_by-cons}
 use Rattle.genie_region.specs.declared.region.Region.{Region}
 use Rattle.genie_model.specs.Tables.{entry}
-use Rattle.genie_kernel.specs.Regions.{has_id, owned_regions, regions_of, with_changed}
-use Rattle.genie_changes.specs.Regions.{with_added, without_number}
+use Rattle.genie_kernel.specs.Regions.{owned_regions, regions_of, with_changed}
+use Rattle.genie_changes.specs.Regions.{with_added}
 use Rattle.genie_changes.proofs.Lists.{all_cons}
 
 pub all_append : {X : Type 0} (P : X → Type 0) (xs ys : List X) → All P xs → All P ys → All P (xs ++ ys)

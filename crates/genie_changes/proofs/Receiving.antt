@@ -1,6 +1,6 @@
 -- One transfer at another point of its work: what devices do for which transfer.
-use Rattle.std.proofs.Common.{◌≡◌, ◌≢◌, ℕ, ◌+◌, ◌<◌, ◌≤◌, zero, suc, Bool, true, false, not, cond, List, [], ◌∷◌, refl, sym, ap, subst, arith, rules, ◌∙◌, ⊎_elim, map, filter, get_or}
-use Rattle.std.specs.Prelude.{Option, Some, None, All, AllPairs, IfSome, is_some, find, count_by, ◌&&◌, ◌==◌}
+use Rattle.std.proofs.Common.{◌≡◌, ◌≢◌, ℕ, ◌<◌, ◌≤◌, zero, suc, Bool, true, false, not, cond, List, [], ◌∷◌, refl, sym, ap, subst, arith, rules, ◌∙◌, ⊎_elim, map, filter, get_or}
+use Rattle.std.specs.Prelude.{Option, Some, None, All, AllPairs, IfSome, find, count_by, ◌&&◌, ◌==◌}
 use Rattle.std.proofs.lemmas.Bool.{cases_eq}
 use Rattle.genie_demux.specs.Posted as demux
 use Rattle.genie_demux.specs.declared.input.Input.{Input}
@@ -9,11 +9,10 @@ use Rattle.genie_device.specs.declared.present.Present.{Present}
 use Rattle.genie_input.specs.Pools.{PoolState}
 use Rattle.genie_model.specs.Pending.{is_posted, is_queued, is_moving, is_just}
 use Rattle.genie_model.specs.Lemmas.Lists.{Has, has_at}
-use Rattle.genie_model.specs.Tables.{change, entry, without}
+use Rattle.genie_model.specs.Tables.{entry, without}
 use Rattle.genie_kernel.specs.declared.transfer.Transfer.{Transfer}
 use Rattle.genie_kernel.specs.Calls.{has_number, first_waiting, receiver, waits_for, receives_from, has_arrived}
 use Rattle.genie_kernel.specs.Matching.{ArePosted, AreSending, AreReceiving, HaveArrived, IsSending, IsStored, posted_as, is_posted_call, has_waiting, has_buffer, room_in}
-use Rattle.genie_kernel.specs.Planned.{is_early_device}
 use Rattle.genie_kernel.specs.Lemmas.Turning.{find_changed, sum_changed, some_changed}
 use Rattle.genie_kernel.specs.Lemmas.Removing.{posted_left}
 use Rattle.genie_kernel.specs.Lemmas.Staying.{at_least}

@@ -1,6 +1,6 @@
 -- The state with a region more, and with one changed.
-use Rattle.std.proofs.Common.{◌≡◌, ◌≢◌, ℕ, ◌+◌, zero, suc, Bool, true, false, not, cond, List, [], ◌∷◌, ◌++◌, refl, sym, ap, ap₂, subst, arith, rules, ◌∙◌, ⊎_elim, map, filter, get_or, set}
-use Rattle.std.specs.Prelude.{Option, Some, None, All, find, flat_map, is_some, ◌==◌, ◌&&◌, ◌||◌}
+use Rattle.std.proofs.Common.{◌≡◌, ◌≢◌, ℕ, zero, suc, Bool, true, false, not, cond, List, [], ◌∷◌, refl, sym, ap, ap₂, subst, arith, rules, ◌∙◌, ⊎_elim, map, filter, get_or, set}
+use Rattle.std.specs.Prelude.{Option, Some, None, find, flat_map, is_some, ◌==◌, ◌&&◌, ◌||◌}
 use Rattle.std.specs.List.{list_any, range_with_len}
 use Rattle.std.specs.Option.{option_map}
 use Rattle.std.proofs.lemmas.Bool.{cases_eq}
@@ -16,7 +16,7 @@ use Rattle.genie_kernel.specs.declared.transfer.Transfer.{Transfer}
 use Rattle.genie_kernel.specs.Calls.{names_weakly, receiver}
 use Rattle.genie_kernel.specs.Devices.{devices_view}
 use Rattle.genie_kernel.specs.Orphans.{is_orphan, is_owned, orphan_view, orphans_view, all_numbers}
-use Rattle.genie_kernel.specs.Regions.{has_id, object_bytes, owned_regions, process_view, processes_view, region_view, regions_of, with_changed}
+use Rattle.genie_kernel.specs.Regions.{has_id, owned_regions, process_view, processes_view, region_view, regions_of, with_changed}
 use Rattle.genie_kernel.specs.View.{Bytes, state_of}
 use Rattle.genie_kernel.specs.Lemmas.Adding.{added_view}
 use Rattle.genie_kernel.specs.Lemmas.Alike.{transfers_alike, orphans_alike, devices_alike}

@@ -1,6 +1,6 @@
 -- One transfer at another point of its work: the view, and what is lent for it.
-use Rattle.std.proofs.Common.{◌≡◌, ℕ, ◌+◌, ◌<◌, zero, suc, Bool, true, false, not, cond, List, [], ◌∷◌, refl, sym, ap, ap₂, subst, arith, ◌∙◌, map, filter, get_or}
-use Rattle.std.specs.Prelude.{Option, Some, None, All, find, flat_map, sum_by, ◌&&◌, ◌||◌, ◌==◌}
+use Rattle.std.proofs.Common.{◌≡◌, ℕ, ◌+◌, zero, suc, Bool, true, false, not, cond, List, [], ◌∷◌, refl, sym, ap, subst, arith, ◌∙◌, map, filter}
+use Rattle.std.specs.Prelude.{Option, Some, All, find, flat_map, sum_by, ◌&&◌, ◌||◌, ◌==◌}
 use Rattle.std.specs.List.{list_any}
 use Rattle.std.proofs.lemmas.List.Sums.{sum_by-cons}
 use Rattle.genie_base.specs.declared.semantics.Direction.{Direction}
@@ -13,14 +13,13 @@ use Rattle.genie_object.specs.declared.memory.Memory.{Memory}
 use Rattle.genie_plan.specs.Loans as kind
 use Rattle.genie_region.specs.declared.region.Region.{Region}
 use Rattle.genie_model.specs.Pending.{is_queued, is_moving, is_numbered}
-use Rattle.genie_model.specs.Lemmas.Lists.{Has}
 use Rattle.genie_model.specs.State as flat
-use Rattle.genie_model.specs.Tables.{change, entry, without}
+use Rattle.genie_model.specs.Tables.{change, entry}
 use Rattle.genie_kernel.specs.declared.transfer.Loans.{Loans}
 use Rattle.genie_kernel.specs.declared.transfer.Loans.TheVariants.{Nothing, Outward, Inward}
 use Rattle.genie_kernel.specs.declared.transfer.Transfer.{Transfer}
 use Rattle.genie_kernel.specs.Calls.{has_number, number_of, names_weakly, is_strong_call, first_waiting, receiver, waits_for, receives_from}
-use Rattle.genie_kernel.specs.Counted.{AreCounted, lent_of, loans_on, wires_on, pool_on}
+use Rattle.genie_kernel.specs.Counted.{AreCounted, loans_on, wires_on, pool_on}
 use Rattle.genie_kernel.specs.Held.{AreHeldPages, HoldsPages}
 use Rattle.genie_kernel.specs.Loans.{has_frame}
 use Rattle.genie_kernel.specs.Orphans.{covers, byte_under, is_owned, orphan_byte, orphans_view, all_places, all_numbers}

@@ -7,3 +7,5 @@ pub mod Pages
 pub mod Pending
 pub mod Working
 pub mod Regions
+pub mod Premises
+pub mod Removing

@@ -1,5 +1,5 @@
 -- Laws of the pages that devices hold.
-use Rattle.std.specs.Prelude.{◌≡◌, ◌≢◌, ℕ, ◌<◌, Bool, true, false, List, [], ◌∷◌, ◌++◌, length, find, All, Option, None, Some, slice_index_or}
+use Rattle.std.specs.Prelude.{◌≡◌, ◌≢◌, ℕ, ◌<◌, Bool, true, false, List, [], ◌∷◌, ◌++◌, length, find, All, None, Some, slice_index_or}
 use Rattle.genie_frame.specs.declared.frame.Owner.TheVariants.{Nobody}
 use Rattle.genie_frame.specs.FrameTable.{owner_at}
 use Rattle.genie_object.specs.declared.memory.Memory.{Memory}

@@ -1,5 +1,5 @@
 -- Laws of what is lent for each transfer, and of what devices do for it, with one transfer less and with one more.
-use Rattle.std.specs.Prelude.{◌≡◌, ◌≢◌, ℕ, ◌<◌, Bool, true, false, List, [], ◌∷◌, ◌++◌, find, AllPairs, All, slice_index_or, Option, None, Some}
+use Rattle.std.specs.Prelude.{◌≡◌, ℕ, ◌<◌, Bool, true, false, List, [], ◌∷◌, ◌++◌, find, AllPairs, All, slice_index_or, Option, None, Some}
 use Rattle.genie_demux.specs.Posted as demux
 use Rattle.genie_demux.specs.declared.input.Input.{Input}
 use Rattle.genie_device.specs.Device.{DeviceView}

@@ -1,5 +1,5 @@
 -- Laws of regions: one more, one less, one changed, of a process that has these.
-use Rattle.std.specs.Prelude.{◌≡◌, ◌≢◌, ◌⊎◌, ℕ, ◌+◌, ◌<◌, Bool, true, false, not, List, length, map, filter, find, count_by, All, Option, None, Some, slice_set}
+use Rattle.std.specs.Prelude.{◌≡◌, ◌≢◌, ℕ, ◌+◌, ◌<◌, true, false, not, List, length, filter, find, count_by, All, Option, Some, slice_set}
 use Rattle.std.specs.List.{list_any}
 use Rattle.std.specs.Option.{option_map}
 use Rattle.genie_base.specs.Regions.{add_in_order}

@@ -1,5 +1,6 @@
 //! Laws of regions: one more, one less, one changed.
 ghost use Rattle.genie_changes.specs.Regions.{AddedRegion, ChangedRegion, FewMore, FewLess, FewChanged, BackedMore, BackedChanged, GuardedMore, GuardedLess, GuardedChanged, HeldOverRegions, FindsNamedMore, FindsNamedChanged};
+ghost use Rattle.genie_changes.specs.Removing.{LeavesOthers, FindsOthersStill, ProcessesLess, BackedLess};
 
 /// The state with a region more, and with one changed.
 pub fn region_states()
@@ -33,4 +34,13 @@ pub fn held_over_regions()
     ensures held { HeldOverRegions }
     ensures more { FindsNamedMore }
     ensures changed { FindsNamedChanged }
+{}
+
+/// Where a region goes, all others are left, and are found with their objects; the processes of the view are those without
+/// it; and the others have their objects, where its own is dropped.
+pub fn removed_region()
+    ensures left { LeavesOthers }
+    ensures found { FindsOthersStill }
+    ensures processes { ProcessesLess }
+    ensures backed { BackedLess }
 {}
