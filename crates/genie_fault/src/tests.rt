@@ -1,5 +1,5 @@
 //! Pages that are read, written in place, shared and lent.
-ghost use Rattle.std.specs.Prelude.{◌≡◌, ◌+◌, ◌-◌, ◌<◌, ◌≤◌, ◌^◌, true, false, length, count_by, IfOk};
+ghost use Rattle.std.specs.Prelude.{◌≡◌, ◌+◌, ◌-◌, ◌<◌, ◌≤◌, ◌^◌, true, false, length, count_by, IfOk, IfSome};
 ghost use Rattle.genie_frame.specs.FrameTable.{is_free};
 ghost use Rattle.genie_store.specs.MemoryView.{memory_view};
 ghost use Rattle.genie_object.specs.Objects.{object_at};
@@ -13,7 +13,7 @@ ghost use Rattle.genie_object.specs.Costs.{AreBelow};
 
 use crate::{resolve_read, resolve_write};
 use genie_base::NoMemory;
-use genie_frame::{FrameId, Meters};
+use genie_frame::{FrameId, Meters, OutLoan, Owner};
 use genie_object::{Entry, EntryRef, Memory, PageId, Place};
 use genie_store::{MemoryStore, Store, StoreFault};
 use std::alloc::Global;
@@ -207,4 +207,67 @@ fn the_last_holder_of_a_shared_page_writes_without_a_copy(rt: HostRuntime) {
     assert_eq!(rt; first_two(&mut memory, &store, first, 2), Some([1, 9]));
     assert_eq!(rt; first_two(&mut memory, &store, middle, 2), Some([2, 9]));
     assert_eq!(rt; first_two(&mut memory, &store, last, 2), Some([3, 9]));
+}
+
+// Lends the frame of an entry's own page strongly, as an output has it: nobody may write the page.
+fn lend<S: Store>(memory: &mut Memory, store: &S, at: EntryRef, left: u32) -> Option<OutLoan>
+    requires bench { IsBench at.object.0 left memory.old (S.view store.now) }
+    requires there { at.index < 3 }
+    ensures bench { IsBench at.object.0 left memory.new (S.view store.now) }
+    ensures strong { IfSome result (λ loan. loan.strong ≡ true) }
+{
+    let page = memory.objects.entry(at).page?;
+    let Place::Frame(f) = memory.pages.place(page) else {
+        return None;
+    };
+    let counts = memory.frames.counts(f);
+    if counts.is_held() || counts.strong > 3 {
+        return None;
+    }
+    memory.objects.forbid_writing(at);
+    Some(memory.frames.lend_strong(f))
+}
+
+// Ends a strong loan on a page's frame.
+fn back<S: Store>(memory: &mut Memory, store: &S, at: EntryRef, loan: OutLoan, left: u32) -> bool
+    requires bench { IsBench at.object.0 left memory.old (S.view store.now) }
+    requires strong { loan.strong ≡ true }
+    ensures bench { IsBench at.object.0 left memory.new (S.view store.now) }
+{
+    let f = loan.frame;
+    if f.0 >= memory.frames.len() {
+        return false;
+    }
+    let Owner::Page(_) = memory.frames.owner(f) else {
+        return false;
+    };
+    let counts = memory.frames.counts(f);
+    if counts.is_held() || counts.strong == 0 {
+        return false;
+    }
+    memory.frames.back_out(loan);
+    true
+}
+
+// A page that two outputs send is copied for the first write, and not for the second.
+#[test]
+fn a_page_under_two_strong_loans_is_copied_once(rt: HostRuntime) {
+    let (mut memory, mut store, at) = three_pages(rt.alloc()).expect(&rt, "memory");
+    assert_eq!(rt; store_first(&mut memory, &mut store, at, &[7], 6), Some(0));
+    assert!(rt; lend(&mut memory, &store, at, 5).is_some());
+    assert!(rt; lend(&mut memory, &store, at, 5).is_some());
+    assert_eq!(rt; store_first(&mut memory, &mut store, at, &[8], 5), Some(16));
+    assert_eq!(rt; store_first(&mut memory, &mut store, at, &[9], 4), Some(16));
+}
+
+// A page is written without a copy once the outputs that sent it are over.
+#[test]
+fn a_page_is_written_in_place_after_its_loans(rt: HostRuntime) {
+    let (mut memory, mut store, at) = three_pages(rt.alloc()).expect(&rt, "memory");
+    assert_eq!(rt; store_first(&mut memory, &mut store, at, &[7], 6), Some(0));
+    let one = lend(&mut memory, &store, at, 5).expect(&rt, "a loan");
+    let two = lend(&mut memory, &store, at, 5).expect(&rt, "a loan");
+    assert!(rt; back(&mut memory, &store, at, one, 5));
+    assert!(rt; back(&mut memory, &store, at, two, 5));
+    assert_eq!(rt; store_first(&mut memory, &mut store, at, &[8], 5), Some(0));
 }

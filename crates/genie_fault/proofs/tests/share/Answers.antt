@@ -1,6 +1,5 @@
 use Rattle.std.proofs.Common.{ap, arith, sym, ◌∙◌, subst}
 use Rattle.genie_object.specs.declared.objects.Entry.{Entry}
-use Rattle.genie_object.specs.declared.memory.Memory.{Memory}
 use Rattle.genie_object.specs.Steps.{CanShare, shared}
 use Rattle.genie_fault.specs.Benches.{IsBench}
 use Rattle.genie_fault.proofs.Benches.{can_share, bench_shared}
