@@ -10,7 +10,7 @@ use genie_base::{ObjectId, TransferId};
 use genie_fault::{resolve_read, resolve_write};
 use genie_hiding::HiddenCache;
 use genie_object::{EntryRef, Memory, Place, Range};
-use genie_pageout::{Clock, make_room};
+use genie_pageout::{Clock, make_room, pageout};
 use genie_plan::{OutPlan, page_count};
 use genie_store::Store;
 use genie_tcow::{prepare_strong, prepare_weak};
@@ -174,6 +174,28 @@ impl<S: Store> Bench<S> {
             k,
         ) {
             Ok(()) => Ok(()),
+            Err(_) => Err(Trouble::Store),
+        }
+    }
+
+    /// Puts pages to the store, where no region is hidden. Answers how many went.
+    pub fn put_out(&mut self, hidden: &mut HiddenCache, n: u32) -> Result<u32, Trouble>
+        requires well { IsWell self.old.memory (S.view self.old.store) self.old.object.0 self.old.entries self.old.pages self.old.most }
+        requires none { hidden.old ≡ [] }
+        ensures well { IsWell self.new.memory (S.view self.new.store) self.new.object.0 self.new.entries self.new.pages self.new.most }
+        ensures none { hidden.new ≡ [] }
+    {
+        if !has_slots(&self.memory) || !is_young(&self.memory) {
+            return Err(Trouble::Limits);
+        }
+        match pageout(
+            &mut self.memory,
+            hidden,
+            &mut self.clock,
+            &mut self.store,
+            n,
+        ) {
+            Ok(number) => Ok(number),
             Err(_) => Err(Trouble::Store),
         }
     }

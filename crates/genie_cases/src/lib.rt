@@ -3,6 +3,8 @@
 
 pub mod bench;
 #[cfg(test)]
+mod hiding;
+#[cfg(test)]
 mod outputs;
 #[cfg(test)]
 mod paging;
