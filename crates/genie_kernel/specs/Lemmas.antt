@@ -7,9 +7,13 @@ pub mod Blind
 pub mod Changing
 pub mod DeviceViews
 pub mod Fresh
+pub mod HeldLess
+pub mod HeldMore
 pub mod Keeping
 pub mod Lending
 pub mod OpenHandles
+pub mod Orphaned
+pub mod Owning
 pub mod Processes
 pub mod Progress
 pub mod Removing

@@ -24,5 +24,7 @@ pub mod Handles
 pub mod Booting
 pub mod Same
 pub mod Lending
+pub mod Owning
+pub mod Holding
 pub mod Laws
 pub mod Lemmas

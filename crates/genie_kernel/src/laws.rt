@@ -2,6 +2,8 @@
 ghost use Rattle.genie_kernel.specs.Handles.{CallsKeepHandles, CallsKeepOthers};
 ghost use Rattle.genie_kernel.specs.Laws.{ViewIsTidy, StatesAreAlike, LentFramesSuffice, RefusesAlike, FreshIsAlike, RestsAreBlind, MemoryCallsKeepGood, MemoryCallsKeepLent, HiddenStay, GuardsStay, RegionsChange, OwnedGrows, PostedShrinks, TransfersTurn, ProgressKeepsLending};
 ghost use Rattle.genie_kernel.specs.Lending.{CountsGrow, CountsShrink};
+ghost use Rattle.genie_kernel.specs.Holding.{HeldMore, HeldLess, HeldAsOrphans};
+ghost use Rattle.genie_kernel.specs.Owning.{OwnedMore, OwnedLess};
 ghost use Rattle.genie_kernel.specs.Steps.{AcceptedStep, StaysOrderly, AloneIsTold};
 
 use genie_orderly::laws::steps_stay_orderly;
@@ -85,6 +87,20 @@ pub fn transfers_turn()
 pub fn counts_follow_transfers()
     ensures more { CountsGrow }
     ensures less { CountsShrink }
+{}
+
+/// Whose the frames are fits the pending transfers once frames are taken for one more, and once one has let its own go.
+pub fn owners_follow_transfers()
+    ensures more { OwnedMore }
+    ensures less { OwnedLess }
+{}
+
+/// The pages that devices hold fit the pending transfers with one more and with one less, and those of a region that is
+/// removed are an orphan's.
+pub fn held_pages_follow_transfers()
+    ensures more { HeldMore }
+    ensures less { HeldLess }
+    ensures orphans { HeldAsOrphans }
 {}
 
 /// How far a transfer has come is no matter of its loans: whose the frames are, and which pages devices hold.
