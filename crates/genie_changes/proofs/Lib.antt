@@ -22,3 +22,4 @@ pub mod Premises
 pub mod Rising
 pub mod Leaving
 pub mod LeftPages
+pub mod Ending
