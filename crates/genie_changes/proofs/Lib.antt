@@ -23,3 +23,4 @@ pub mod Rising
 pub mod Leaving
 pub mod LeftPages
 pub mod Ending
+pub mod Fitting
