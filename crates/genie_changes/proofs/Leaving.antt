@@ -1,6 +1,6 @@
 -- The regions that are left where one goes.
 use Rattle.std.proofs.Common.{◌≡◌, ◌≢◌, ℕ, ◌+◌, ◌<◌, ◌≤◌, zero, suc, Bool, true, false, not, cond, List, [], ◌∷◌, ◌++◌, refl, sym, ap, ap₂, subst, arith, rules, ◌∙◌, ⊎_elim, inl, inr, length, map, filter, get_or, set}
-use Rattle.std.specs.Prelude.{Option, Some, None, All, AllPairs, find, sum_by, count_by, ◌==◌, ◌||◌, if◌then◌else◌}
+use Rattle.std.specs.Prelude.{Option, Some, None, is_some, All, AllPairs, find, sum_by, count_by, ◌==◌, ◌||◌, if◌then◌else◌}
 use Rattle.std.specs.List.{list_any}
 use Rattle.std.specs.Option.{option_or}
 use Rattle.std.proofs.lemmas.Bool.{cases_eq}
@@ -150,19 +150,19 @@ module _ (s : ℕ → ℕ → List ℕ) (n : ℕ) where
     | false ↦ λ h. ap (λ l. x ∷ l) (unlisted q h)
   ] e
 
-  process_same : (p : Option (List Region)) (q : List ℕ) → list_any (has_id n) (regions_of p) ≡ false → list_any (λ m. m == n) q ≡ false → process_view s p q ≡ change_process (without_region n) (process_view s p q)
+  process_same : (p : Option (List Region)) (q : List ℕ) → list_any (has_id n) (regions_of p) ≡ false → (is_some p ≡ true → list_any (λ m. m == n) q ≡ false) → process_view s p q ≡ change_process (without_region n) (process_view s p q)
   process_same None q a b = refl
-  process_same (Some rs) q a b = λ i. Some (record { queue = sym (unlisted q b) i; regions = sym (regions_less rs ∙ ap (map (region_view s)) (none_less n rs a)) i })
+  process_same (Some rs) q a b = λ i. Some (record { queue = sym (unlisted q (b refl)) i; regions = sym (regions_less rs ∙ ap (map (region_view s)) (none_less n rs a)) i })
 
   process_less : (p : Option (List Region)) (q : List ℕ) (rs : List Region) → p ≡ Some rs → process_view s (Some (without_number n rs)) (filter (λ m. not (m == n)) q) ≡ change_process (without_region n) (process_view s p q)
   process_less p q rs e = ap (λ (l : List flat.Region). Some (record { queue = filter (λ m. not (m == n)) q; regions = l })) (sym (regions_less rs)) ∙ sym (ap (λ (z : Option (List Region)). change_process (without_region n) (process_view s z q)) e)
 
-  others_same : (ps : List (Option (List Region))) (qs : List (List ℕ)) → ((i : ℕ) → list_any (has_id n) (regions_of (entry ps i)) ≡ false) → ((i : ℕ) → list_any (λ m. m == n) (get_or qs i []) ≡ false) → processes_view s ps qs ≡ map (change_process (without_region n)) (processes_view s ps qs)
+  others_same : (ps : List (Option (List Region))) (qs : List (List ℕ)) → ((i : ℕ) → list_any (has_id n) (regions_of (entry ps i)) ≡ false) → ((i : ℕ) → is_some (entry ps i) ≡ true → list_any (λ m. m == n) (get_or qs i []) ≡ false) → processes_view s ps qs ≡ map (change_process (without_region n)) (processes_view s ps qs)
   others_same [] qs a b = refl
-  others_same (p ∷ ps) [] a b = ap₂ ◌∷◌ (process_same p [] (a 0) refl) (others_same ps [] (λ i. a (suc i)) (λ i. refl))
+  others_same (p ∷ ps) [] a b = ap₂ ◌∷◌ (process_same p [] (a 0) (λ live. refl)) (others_same ps [] (λ i. a (suc i)) (λ i live. refl))
   others_same (p ∷ ps) (q ∷ qs) a b = ap₂ ◌∷◌ (process_same p q (a 0) (b 0)) (others_same ps qs (λ i. a (suc i)) (λ i. b (suc i)))
 
-  pub processes_less : (ps : List (Option (List Region))) (qs : List (List ℕ)) (p : ℕ) (rs : List Region) → entry ps p ≡ Some rs → p < length qs → IsOnlyIn n p ps → IsListedIn n p qs
+  pub processes_less : (ps : List (Option (List Region))) (qs : List (List ℕ)) (p : ℕ) (rs : List Region) → entry ps p ≡ Some rs → p < length qs → IsOnlyIn n p ps → IsListedIn n p ps qs
       → processes_view s (set ps p (Some (without_number n rs))) (set qs p (filter (λ m. not (m == n)) (get_or qs p []))) ≡ map (change_process (without_region n)) (processes_view s ps qs)
   processes_less ps [] p rs e l only listed = absurd (omega (arith, l))
   processes_less [] (q ∷ qs) p rs e l only listed = absurd (cc)

@@ -27,12 +27,12 @@ use Rattle.genie_changes.proofs.Gained.{object_length}
 use Rattle.genie_changes.proofs.Places.{loan_of}
 use Rattle.genie_changes.proofs.Premises.{LendsFrom, begins_in, weak_range, weak_has, named_region}
 
-map_joined : {X Y : Type 0} (f : X → Y) (xs ys : List X) → map f (xs ++ ys) ≡ map f xs ++ map f ys
+pub map_joined : {X Y : Type 0} (f : X → Y) (xs ys : List X) → map f (xs ++ ys) ≡ map f xs ++ map f ys
 map_joined f [] ys = refl
 map_joined f (x ∷ xs) ys = ap (λ l. f x ∷ l) (map_joined f xs ys)
 
 -- the regions of the view are those of all processes
-regions_seen : (s : ℕ → ℕ → List ℕ) (ps : List (Option (List Region))) (qs : List (List ℕ)) → all_of (processes_view s ps qs) ≡ map (region_view s) (owned_regions ps)
+pub regions_seen : (s : ℕ → ℕ → List ℕ) (ps : List (Option (List Region))) (qs : List (List ℕ)) → all_of (processes_view s ps qs) ≡ map (region_view s) (owned_regions ps)
 regions_seen s [] qs = refl
 regions_seen s (None ∷ ps) [] = regions_seen s ps []
 regions_seen s (None ∷ ps) (q ∷ qs) = regions_seen s ps qs

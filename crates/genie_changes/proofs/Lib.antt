@@ -22,3 +22,5 @@ pub mod Premises
 pub mod Rising
 pub mod Leaving
 pub mod LeftPages
+pub mod Ending
+pub mod Fitting

@@ -50,7 +50,7 @@ each_device P Q d old new stay others here h j = ⊎_elim
     (λ (other : j ≢ d). subst (Q j) (sym (stay j other)) (others j other (h j)))
     (cases_eq j d)
 
-elsewhere : (t : Transfer) (j : ℕ) (b : Bool) → j ≢ t.dev → (b && (t.dev == j)) ≡ false
+pub elsewhere : (t : Transfer) (j : ℕ) (b : Bool) → j ≢ t.dev → (b && (t.dev == j)) ≡ false
 elsewhere t j b ne = let other : (t.dev == j) ≡ false = grind (arith, rules, ne) in ap (λ c. b && c) other ∙ (elim b as (λ c. (c && false) ≡ false) [ true ↦ refl | false ↦ refl ])
 
 pub sending_worked : (p : Transfer → Bool) (w : Work) (t : Transfer) (ts : List Transfer) (old new : List (Option DeviceView)) → find p ts ≡ Some t → OthersStay t.dev old new

@@ -42,7 +42,7 @@ transfers_rise k g =
           omega (arith, less, a);
     }
 
-abbrev ids : Option (List Region) → List ℕ
+abbrev pub ids : Option (List Region) → List ℕ
 ids p = map (λ (r : Region). r.id.0) (regions_of p)
 
 ids_in : (s : ℕ → ℕ → List ℕ) (rs : List Region) → map (λ (r : flat.Region). r.number) (map (region_view s) rs) ≡ map (λ (r : Region). r.id.0) rs
@@ -53,7 +53,7 @@ process_ids : (s : ℕ → ℕ → List ℕ) (p : Option (List Region)) (q : Lis
 process_ids s None q = refl
 process_ids s (Some rs) q = ids_in s rs
 
-all_ids : (s : ℕ → ℕ → List ℕ) (ps : List (Option (List Region))) (qs : List (List ℕ)) → flat_map region_numbers (processes_view s ps qs) ≡ flat_map ids ps
+pub all_ids : (s : ℕ → ℕ → List ℕ) (ps : List (Option (List Region))) (qs : List (List ℕ)) → flat_map region_numbers (processes_view s ps qs) ≡ flat_map ids ps
 all_ids s [] qs = refl
 all_ids s (p ∷ ps) [] = ap₂ ◌++◌ (process_ids s p []) (all_ids s ps [])
 all_ids s (p ∷ ps) (q ∷ qs) = ap₂ ◌++◌ (process_ids s p q) (all_ids s ps qs)

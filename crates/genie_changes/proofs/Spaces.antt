@@ -4,9 +4,11 @@ use Rattle.std.specs.Prelude.{Option, Some, None, find, flat_map, is_some, ◌==
 use Rattle.std.specs.List.{list_any, range_with_len}
 use Rattle.std.specs.Option.{option_map}
 use Rattle.std.proofs.lemmas.Bool.{cases_eq}
+use Rattle.std.proofs.lemmas.List.{length-set}
+use Rattle.genie_base.specs.declared.config.Config.{Config}
 use Rattle.genie_object.specs.declared.memory.Memory.{Memory}
 use Rattle.genie_region.specs.declared.region.Region.{Region}
-use Rattle.genie_space.specs.Spaces.{AddressSpaces}
+use Rattle.genie_space.specs.Spaces.{AddressSpaces, set_process}
 use Rattle.genie_model.specs.Regions.{change_process, change_region, changed_in}
 use Rattle.genie_model.specs.Space.{add_region, with_region}
 use Rattle.genie_model.specs.State as flat
@@ -17,6 +19,7 @@ use Rattle.genie_kernel.specs.Calls.{names_weakly, receiver}
 use Rattle.genie_kernel.specs.Devices.{devices_view}
 use Rattle.genie_kernel.specs.Orphans.{is_orphan, is_owned, orphan_view, orphans_view, all_numbers}
 use Rattle.genie_kernel.specs.Regions.{has_id, owned_regions, process_view, processes_view, region_view, regions_of, with_changed}
+use Rattle.genie_kernel.specs.Sizes.{AreSizedSpaces}
 use Rattle.genie_kernel.specs.View.{Bytes, state_of}
 use Rattle.genie_kernel.specs.Lemmas.Adding.{added_view}
 use Rattle.genie_kernel.specs.Lemmas.Alike.{transfers_alike, orphans_alike, devices_alike}
@@ -97,3 +100,6 @@ changed_region k m spaces old new p n f g rs e others procs numbers same keeps =
     let transfers = transfers_alike owned k.transfers k.pools a b keeps.frames k.devices in
     let devices = (λ i. devices_view b 0 (keeps.rests i) (keeps.sents i) k.pools (receiver k.transfers) k.devices) ∙ devices_alike owned k.transfers k.pools a b keeps.frames 0 old.rests old.sents (receiver k.transfers) k.devices in
     λ i. record (state_of k old) { processes = processes i; orphans = orphans i; transfers = transfers i; devices = devices i }
+
+pub spaced_stay : (config : Config) (spaces : AddressSpaces) (queues : List (List ℕ)) (p j : ℕ) (x : Option (List Region)) (q : List ℕ) → AreSizedSpaces config spaces queues → AreSizedSpaces config (set_process spaces p x) (set queues j q)
+spaced_stay config spaces queues p j x q h = record { page = h.page; processes = length-set spaces.processes p x ∙ h.processes; queue_places = length-set queues j q ∙ h.queue_places }

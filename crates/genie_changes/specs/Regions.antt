@@ -3,6 +3,7 @@ use Rattle.std.specs.Prelude.{◌≡◌, ◌≢◌, ℕ, ◌+◌, ◌<◌, true,
 use Rattle.std.specs.List.{list_any}
 use Rattle.std.specs.Option.{option_map}
 use Rattle.genie_base.specs.Regions.{add_in_order}
+use Rattle.genie_base.specs.declared.config.Config.{Config}
 use Rattle.genie_hiding.specs.declared.hidden.Hidden.{Hidden}
 use Rattle.genie_hiding.specs.Hidden.{is_of}
 use Rattle.genie_object.specs.declared.memory.Memory.{Memory}
@@ -10,7 +11,7 @@ use Rattle.genie_object.specs.declared.objects.Entry.{Entry}
 use Rattle.genie_object.specs.Objects.{object_at, is_absent}
 use Rattle.genie_region.specs.declared.region.Region.{Region}
 use Rattle.genie_region.specs.Layouts.{extent}
-use Rattle.genie_space.specs.Spaces.{AddressSpaces}
+use Rattle.genie_space.specs.Spaces.{AddressSpaces, set_process}
 use Rattle.genie_model.specs.Regions.{change_region}
 use Rattle.genie_model.specs.Space.{add_region}
 use Rattle.genie_model.specs.State as flat
@@ -22,6 +23,7 @@ use Rattle.genie_kernel.specs.Calls.{names_weakly}
 use Rattle.genie_kernel.specs.Held.{AreHeldPages}
 use Rattle.genie_kernel.specs.Regions.{has_id, owned_regions, regions_of, region_view, with_changed}
 use Rattle.genie_kernel.specs.Same.{SameNeeded}
+use Rattle.genie_kernel.specs.Sizes.{AreSizedSpaces}
 use Rattle.genie_kernel.specs.View.{Bytes, state_of}
 
 -- the regions of a process with one more, and without number n
@@ -105,3 +107,7 @@ FindsNamedMore = (ts : List Transfer) (ps : List (Option (List Region))) (p : �
 
 abbrev pub FindsNamedChanged : Type 0
 FindsNamedChanged = (ts : List Transfer) (ps : List (Option (List Region))) (p n : ℕ) (g : Region → Region) (rs : List Region) → entry ps p ≡ Some rs → ((r : Region) → ((g r).id.0 ≡ r.id.0) × ((g r).object.0 ≡ r.object.0)) → FindsNamed ts (owned_regions ps) (owned_regions (slice_set ps p (Some (with_changed n g rs))))
+
+-- the tables of processes and queues keep their sizes, whatever one process and its queue are
+abbrev pub SpacedStay : Type 0
+SpacedStay = (config : Config) (spaces : AddressSpaces) (queues : List (List ℕ)) (p j : ℕ) (x : Option (List Region)) (q : List ℕ) → AreSizedSpaces config spaces queues → AreSizedSpaces config (set_process spaces p x) (slice_set queues j q)

@@ -1,5 +1,5 @@
 -- Laws of one transfer at another point of its work: its phase, its buffer, what is stored of it, and its note.
-use Rattle.std.specs.Prelude.{◌≡◌, ◌≢◌, ℕ, ◌<◌, ◌≤◌, Bool, true, false, not, ◌&&◌, List, find, AllPairs, Option, None, Some, IfSome, is_some}
+use Rattle.std.specs.Prelude.{◌≡◌, ◌≢◌, ℕ, ◌<◌, ◌≤◌, Bool, true, false, not, ◌&&◌, List, [], find, AllPairs, Option, None, Some, IfSome, is_some}
 use Rattle.genie_base.specs.declared.reply.Note.{Note}
 use Rattle.genie_demux.specs.Posted as demux
 use Rattle.genie_demux.specs.declared.input.Input.{Input}
@@ -22,7 +22,7 @@ use Rattle.genie_kernel.specs.Matching.{ArePosted, AreSending, AreReceiving, Hav
 use Rattle.genie_kernel.specs.Orphans.{orphans_view}
 use Rattle.genie_kernel.specs.Owners.{AreOwned}
 use Rattle.genie_kernel.specs.Planned.{ArePlanned, FitDevices, is_early_device}
-use Rattle.genie_kernel.specs.Transfers.{transfer_view, transfers_view}
+use Rattle.genie_kernel.specs.Transfers.{buffer_bytes, is_outboard_device, sent_by, staged_by, transfer_view, transfers_view}
 
 -- where the work on a transfer is
 pub record Work : Type 0 where
@@ -106,3 +106,18 @@ pub record GetsBuffer (w : Work) (t : Transfer) (old new : List (Option DeviceVi
 -- the datagrams that wait are those of all transfers that have arrived
 abbrev pub ArrivedWorked : Type 0
 ArrivedWorked = (p : Transfer → Bool) (w : Work) (t : Transfer) (ts : List Transfer) (old new : List (Option DeviceView)) (old_pools new_pools : List (Option PoolState)) → find p ts ≡ Some t → GetsBuffer w t old new old_pools new_pools → HaveArrived old old_pools ts → HaveArrived new new_pools (worked p w ts)
+
+-- a device has ended a record: it has staged and sent nothing of the next one, its buffers show what they showed, and no
+-- other device has changed
+pub record EndsRecord (d : ℕ) (old new : List (Option DeviceView)) (pools : List (Option PoolState)) : Type 0 where
+  pub others : OthersStay d old new
+  pub unstaged : staged_by (entry new d) ≡ []
+  pub unsent : sent_by (entry new d) ≡ 0
+  pub outboard : is_outboard_device (entry new d) ≡ is_outboard_device (entry old d)
+  pub buffers : (s : ℕ → List ℕ) (b : ℕ) → buffer_bytes s (entry new d) (entry pools d) b ≡ buffer_bytes s (entry old d) (entry pools d) b
+
+-- the transfers are seen with that one changed whose record is ended
+abbrev pub TransfersSent : Type 0
+TransfersSent = (s : ℕ → List ℕ) (old new : List (Option DeviceView)) (pools : List (Option PoolState)) (n : ℕ) (w : Work) (t : Transfer) (f : flat.Transfer → flat.Transfer) (ts : List Transfer) → AllPairs (λ (x y : Transfer). x.id.0 < y.id.0) ts → find (has_number n) ts ≡ Some t → first_waiting ts t.dev ≡ Some t → EndsRecord t.dev old new pools
+    → transfer_view s new pools (first_waiting (worked (has_number n) w ts)) (at_work w t) ≡ f (transfer_view s old pools (first_waiting ts) t)
+    → transfers_view s new pools (worked (has_number n) w ts) ≡ change (is_numbered n) f (transfers_view s old pools ts)

@@ -1,5 +1,5 @@
 //! Laws of regions: one more, one less, one changed.
-ghost use Rattle.genie_changes.specs.Regions.{AddedRegion, ChangedRegion, FewMore, FewLess, FewChanged, BackedMore, BackedChanged, GuardedMore, GuardedLess, GuardedChanged, HeldOverRegions, FindsNamedMore, FindsNamedChanged};
+ghost use Rattle.genie_changes.specs.Regions.{AddedRegion, ChangedRegion, FewMore, FewLess, FewChanged, BackedMore, BackedChanged, GuardedMore, GuardedLess, GuardedChanged, HeldOverRegions, FindsNamedMore, FindsNamedChanged, SpacedStay};
 ghost use Rattle.genie_changes.specs.Removing.{LeavesOthers, FindsOthersStill, ProcessesLess, BackedLess};
 
 /// The state with a region more, and with one changed.
@@ -43,4 +43,9 @@ pub fn removed_region()
     ensures found { FindsOthersStill }
     ensures processes { ProcessesLess }
     ensures backed { BackedLess }
+{}
+
+/// The tables of processes and queues keep their sizes, whatever one process and its queue are.
+pub fn spaced_tables()
+    ensures { SpacedStay }
 {}

@@ -1,10 +1,11 @@
 //! Laws of one transfer at another point of its work, on the state and on the parts of what is true of a kernel.
-ghost use Rattle.genie_changes.specs.Working.{OrphansWorked, TransfersWorked, CountedWorked, OwnedWorked, HeldWorked, PlannedWorked, FittingWorked, PostedWorked, PostedTaken, SendingWorked, ReceivingWorked, FirstWorked, ReceiverWorked, ArrivedWorked};
+ghost use Rattle.genie_changes.specs.Working.{OrphansWorked, TransfersWorked, TransfersSent, CountedWorked, OwnedWorked, HeldWorked, PlannedWorked, FittingWorked, PostedWorked, PostedTaken, SendingWorked, ReceivingWorked, FirstWorked, ReceiverWorked, ArrivedWorked};
 
-/// Orphans show the same, and the transfers are seen with that one changed.
+/// Orphans show the same, and the transfers are seen with that one changed, also where it is an output that is sent.
 pub fn worked_view()
     ensures orphans { OrphansWorked }
     ensures transfers { TransfersWorked }
+    ensures sent { TransfersSent }
 {}
 
 /// Loans, wires, owners, held pages and plans are as before.
