@@ -1,0 +1,4 @@
+//! The kernel's events on address spaces.
+#![tactic(auto)]
+
+pub mod spawn;
