@@ -1,3 +1,4 @@
+pub mod Benches
 pub mod Bringing
 pub mod Ending
 pub mod Loading

@@ -22,10 +22,11 @@ use Rattle.genie_object.specs.Touching.{IsOutside, is_entry}
 use Rattle.genie_fault.specs.Resolving.{IsIn, IsResolved, IsWritten, IsBrought, IsParted}
 use Rattle.genie_object.specs.Costs.{place_of, CostsNoMore, is_fixed, is_zero}
 use Rattle.genie_object.specs.Lemmas.Lookup.{named}
-use Rattle.genie_object.specs.Lemmas.Entries.{entry_same, entry_or, entries_size, unnamed, times_some}
+use Rattle.genie_object.specs.Lemmas.Entries.{entry_same, entry_or, entries_size, times_some}
 use Rattle.genie_object.specs.Lemmas.Granted.{sound_granted, seen_granted, keeps_granted, touches_granted, page_granted}
-use Rattle.genie_object.specs.Lemmas.Filled.{sound_filled, keeps_filled, touches_filled, seen_filled, of_page, of_other, strong_filled, count_filled, free_filled, bytes_here, bytes_other, kept_filled}
-use Rattle.genie_object.specs.Lemmas.Renamed.{sound_renamed, keeps_renamed, touches_renamed, bytes_renamed, count_renamed, of_q, here as renamed_here, is_named, many as named_many, place_kept, page_other}
+use Rattle.genie_object.specs.Lemmas.Filled.{sound_filled, keeps_filled, touches_filled, seen_filled, of_page, of_other, strong_filled, count_filled, free_filled}
+use Rattle.genie_object.specs.Lemmas.Parted.{fresh_some, fresh_unheld, names_fresh, names_older, seen_parted}
+use Rattle.genie_object.specs.Lemmas.Renamed.{sound_renamed, keeps_renamed, touches_renamed, count_renamed, of_q, is_named, many as named_many, place_kept, page_other}
 use Rattle.genie_object.specs.Lemmas.Costing.{IsNoDearer, costs_same, dear_same, dear_in_frame, dear_shared, read_same, write_same}
 use Rattle.genie_object.specs.Lemmas.Spending.{costs_on, copy_named, untouched_named}
 use Rattle.genie_object.specs.Lemmas.Touching.{keeps_on, touches_on, sound_metered, keeps_metered, touches_metered}
@@ -144,36 +145,22 @@ module _ (m : Memory) (o i q : ℕ) (x : CanRename m o i q) (g : FrameId) (b : L
   number = record { 0 = q }
 
   some : 0 < (page_at base.pages.pages q).shares
-  some = omega (arith, ap (λ (r : PageInfo). r.shares) (of_q m o i q x))
+  some = fresh_some m o i q x
 
   unheld : (f : FrameId) → (page_at base.pages.pages q).place ≡ Frame f → is_held (counts_at m.frames f.0) ≡ false
-  unheld f e = let bad : Zero ≡ Frame f = sym (ap (λ (r : PageInfo). r.place) (of_q m o i q x)) ∙ e in cc
+  unheld = fresh_unheld m o i q x
 
   sound : IsSound base
   sound = sound_renamed m o i q x
 
   named_q : (entry_at base.objects o i).page ≡ Some number
-  named_q = ap (λ (e : Entry). e.page) (renamed_here m o i q x)
+  named_q = names_fresh m o i q x
 
   other_q : (a c : ℕ) (r : PageId) → (entry_at m.objects a c).page ≡ Some r → r.0 ≢ q
-  other_q a c r e s = let bad : true ≡ false = sym (ap (λ n. names n (entry_at m.objects a c)) (sym s) ∙ named r (entry_at m.objects a c) e) ∙ unnamed m q a c x.sound.shared (ap (λ (p : PageInfo). p.shares) x.spare) in cc
+  other_q = names_older m o i q x
 
-  entry_bytes : (slots : ℕ → List ℕ) → b ≡ place_bytes m.frames slots (place_of m o i) → (a c : ℕ) → (seen new slots).entry_bytes a c ≡ (seen m slots).entry_bytes a c
-  entry_bytes slots h a c = elim (entry_or m.objects o i (fresh_entry q) x.there a c) [
-    | inl s ↦
-        let is : (entry_at base.objects a c).page ≡ Some number = ap (λ n. (entry_at base.objects n c).page) s.0 ∙ ap (λ n. (entry_at base.objects o n).page) s.1 ∙ named_q in
-        ap (page_bytes new.frames new.pages.pages slots) is
-        ∙ bytes_here base q g b sound some unheld there free full slots
-        ∙ h ∙ bytes_placed m slots (entry_at m.objects o i).page
-        ∙ ap (λ n. page_bytes m.frames m.pages.pages slots (entry_at m.objects o n).page) (sym s.1) ∙ ap (λ n. page_bytes m.frames m.pages.pages slots (entry_at m.objects n c).page) (sym s.0)
-    | inr n ↦
-        ap (λ (e : Entry). page_bytes new.frames new.pages.pages slots e.page) n.1
-        ∙ bytes_other base q g b sound some unheld there free full slots (entry_at m.objects a c).page (other_q a c)
-        ∙ bytes_renamed m o i q x slots (entry_at m.objects a c).page
-  ]
-
-  seen_parted : (slots : ℕ → List ℕ) → b ≡ place_bytes m.frames slots (place_of m o i) → seen new slots ≡ seen m slots
-  seen_parted slots h = λ k. record { entry_bytes = λ a c. entry_bytes slots h a c k; kept_bytes = λ f. kept_filled base q g b sound some unheld there free full slots f k }
+  seen_new : (slots : ℕ → List ℕ) → b ≡ place_bytes m.frames slots (place_of m o i) → seen new slots ≡ seen m slots
+  seen_new slots h = seen_parted m o i q x g b there free full slots (h ∙ bytes_placed m slots (entry_at m.objects o i).page)
 
   dear_other : (r : PageId) → r.0 ≢ q → IsNoDearer m.frames.counts (page_at m.pages.pages r.0) (page_at new.pages.pages r.0)
   dear_other r n = subst (IsNoDearer m.frames.counts (page_at m.pages.pages r.0)) (sym (of_other base q g b sound some unheld there free full r.0 n)) (elim (is_named (entry_at m.objects o i).page r.0) as (λ v. is_named (entry_at m.objects o i).page r.0 ≡ v → IsNoDearer m.frames.counts (page_at m.pages.pages r.0) (page_at base.pages.pages r.0)) [
@@ -205,7 +192,7 @@ module _ (m : Memory) (o i q : ℕ) (x : CanRename m o i q) (g : FrameId) (b : L
   in_filled : (v : StoreView) (t : Meters) → IfSome v.slots (λ slots. b ≡ place_bytes m.frames slots (place_of m o i)) → IsIn m (metered new t) v o i number g
   in_filled v t h = record {
     sound = sound_metered new t (sound_filled base q g b sound some unheld there free full);
-    seen = told (seen (metered new t)) (seen m) v.slots (λ slots. b ≡ place_bytes m.frames slots (place_of m o i)) h seen_parted;
+    seen = told (seen (metered new t)) (seen m) v.slots (λ slots. b ≡ place_bytes m.frames slots (place_of m o i)) h seen_new;
     keeps = keeps_metered m new t (keeps_on m base new (keeps_renamed m o i q x) (keeps_filled base q g b sound some unheld there free full));
     touches = touches_metered (is_entry o i) m new t (touches_on (is_entry o i) m base new (touches_renamed m o i q x (is_entry o i) (here o i)) (touches_filled base q g b sound some unheld there free full (is_entry o i) (outside_not base o i number named_q)));
     there = rw (entries_size m.objects o i (fresh_entry q) x.there o) x.there;

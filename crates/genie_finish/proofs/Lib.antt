@@ -7,5 +7,4 @@ pub mod Readying
 pub mod Staying
 pub mod Stored
 pub mod Storing
-pub mod Swapped
 pub mod Tabling

@@ -1,5 +1,5 @@
 -- Page after page of a range is stored.
-use Rattle.std.proofs.Common.{◌≡◌, ◌≢◌, ℕ, zero, suc, ◌+◌, ◌-◌, ◌*◌, ◌/◌, ◌%◌, ◌<◌, ◌≤◌, ◌^◌, Bool, true, false, List, [], ◌∷◌, ◌++◌, length, take, drop, get_or, refl, ap, sym, ◌∙◌, arith, rules, subst, inl, inr, ◌⊎◌, length-take, length-drop, mul-le-mul_left}
+use Rattle.std.proofs.Common.{◌≡◌, ◌≢◌, ℕ, zero, suc, ◌+◌, ◌-◌, ◌*◌, ◌/◌, ◌%◌, ◌<◌, ◌≤◌, ◌^◌, Bool, true, false, List, [], ◌∷◌, length, take, drop, get_or, refl, ap, sym, ◌∙◌, arith, rules, subst, inl, inr, ◌⊎◌, length-take, length-drop, mul-le-mul_left}
 use Rattle.std.specs.Prelude.{IsTrue, Option, Some, None, ◌==◌, ◌&&◌, ◌||◌, min, nat_lt, nat_le, count_by, if◌then◌else◌}
 use Rattle.std.proofs.lemmas.Bool.{cases_lt}
 use Rattle.std.proofs.lemmas.Bool.Decides.{eqb_tells}
@@ -8,23 +8,22 @@ use Rattle.std.proofs.lemmas.List.{drop-append-le, take-append-le, take_all, dro
 use Rattle.std.proofs.Math.Seq.{take-add, drop-append-add}
 use Rattle.genie_base.specs.Bytes.{overlaid, part}
 use Rattle.genie_base.specs.Counts.{span, is_page_size}
-use Rattle.genie_base.specs.Lemmas.Places.{same_or, num}
-use Rattle.genie_frame.specs.declared.frame.Owner.TheVariants.{Page, Nobody}
+use Rattle.genie_base.specs.Lemmas.Places.{same_or}
 use Rattle.genie_frame.specs.declared.frame.Counts.{Counts}
 use Rattle.genie_frame.specs.declared.frame.Meters.{Meters}
-use Rattle.genie_frame.specs.FrameTable.{is_system, owner_at, counts_at, bytes_at, is_held, is_lent, is_page, no_counts, IsShaped}
+use Rattle.genie_frame.specs.FrameTable.{is_system, owner_at, counts_at, bytes_at, is_held, is_lent, is_page, no_counts}
 use Rattle.genie_object.specs.declared.pages.PageId.{PageId}
 use Rattle.genie_object.specs.declared.pages.PageInfo.{PageInfo}
 use Rattle.genie_object.specs.declared.objects.Entry.{Entry}
 use Rattle.genie_object.specs.declared.memory.Memory.{Memory}
-use Rattle.genie_object.specs.Pages.{page_at, is_there}
-use Rattle.genie_object.specs.Objects.{entry_at, object_at, names}
+use Rattle.genie_object.specs.Pages.{is_there}
+use Rattle.genie_object.specs.Objects.{entry_at, names}
 use Rattle.genie_object.specs.Memory.{Seen, seen, entry_frame}
 use Rattle.genie_object.specs.Sound.{IsSound, IsPrivate}
 use Rattle.genie_object.specs.Touching.{Touches, IsOutside, is_entry, is_in_range}
 use Rattle.genie_object.specs.Costs.{AreBelow, Spends}
 use Rattle.genie_object.specs.Lemmas.Touching.{touches_on, touches_more, touches_none}
-use Rattle.genie_object.specs.Lemmas.Spending.{spends_on, spends_more, spends_none, below_spent}
+use Rattle.genie_object.specs.Lemmas.Spending.{spends_on, spends_more, spends_none}
 use Rattle.genie_frame.specs.declared.frame.InLoan.{InLoan}
 use Rattle.genie_plan.specs.Plans.{times, joined, range_bytes, input_frames, AreApart}
 use Rattle.genie_plan.specs.Lemmas.Ranges.{times-cons, times_at, other_num, apart_rest, apart_first, joined_length, frames_count}
@@ -33,13 +32,12 @@ use Rattle.genie_plan.specs.Landings.{entries_bytes}
 use Rattle.genie_plan.specs.Lemmas.Landings.{page_in, times_some}
 use Rattle.genie_object.specs.Lemmas.Naming.{named_once}
 use Rattle.genie_finish.specs.Besides.{KeepsBesides}
-use Rattle.genie_input.specs.Buffers.{IsBuffer}
 use Rattle.genie_finish.specs.Storing.{StaysBuffer, StoresPage, CanStore, held_in, is_held_at, is_copied, stored_work, see_stored}
 use Rattle.genie_input.specs.Buffers.{AreBuffers}
-use Rattle.genie_finish.specs.Ranges.{piece_off, piece_start, piece_len, CanStorePages, CanStoreRange, stored_works, ShowsStored, StoresRange}
+use Rattle.genie_finish.specs.Ranges.{piece_len, CanStorePages, CanStoreRange, stored_works, StoresRange}
 use Rattle.genie_finish.proofs.Storing.{buffer_page}
 use Rattle.genie_finish.proofs.Ranging.{shows_in_range, overlaid-next}
-use Rattle.genie_finish.proofs.Swapped.{framed_place, untouched_place}
+use Rattle.genie_object.specs.Lemmas.PlaceOf.{framed_place, untouched_place}
 
 -- the page that an entry names
 names_is : (p : ℕ) (e : Entry) → names p e ≡ true → (q : PageId) × (e.page ≡ Some q) × (q.0 ≡ p)

@@ -1,7 +1,7 @@
 -- A page of a buffer was stored, by copying it or by swapping.
-use Rattle.std.proofs.Common.{◌≡◌, ◌≢◌, ℕ, zero, ◌+◌, ◌-◌, ◌<◌, ◌≤◌, true, false, List, [], ◌∷◌, length, get_or, refl, ap, sym, ◌∙◌, arith, rules, subst, inl, inr, length-set}
+use Rattle.std.proofs.Common.{◌≡◌, ◌≢◌, ℕ, ◌<◌, true, false, List, [], ◌∷◌, length, get_or, refl, ap, sym, ◌∙◌, arith, rules, subst, inl, inr, length-set}
 use Rattle.std.specs.Prelude.{Some, ◌==◌, count_by, replicate}
-use Rattle.std.proofs.lemmas.List.{get_or-set_same, get_or-set_other, length-replicate}
+use Rattle.std.proofs.lemmas.List.{length-replicate}
 use Rattle.genie_base.specs.Bytes.{overlaid, part}
 use Rattle.genie_base.specs.Lemmas.Overlaid.{length-overlaid}
 use Rattle.genie_base.specs.Lemmas.Places.{num}
@@ -9,7 +9,6 @@ use Rattle.genie_frame.specs.declared.frame.FrameId.{FrameId}
 use Rattle.genie_frame.specs.declared.frame.InLoan.{InLoan}
 use Rattle.genie_frame.specs.declared.frame.Owner.{Owner}
 use Rattle.genie_frame.specs.declared.frame.Owner.TheVariants.{Free, Page, System, Pool, Nobody}
-use Rattle.genie_frame.specs.declared.frame.Counts.{Counts}
 use Rattle.genie_frame.specs.declared.frame.Meters.{Meters}
 use Rattle.genie_frame.specs.FrameTable.{is_system, FrameTable, owner_at, counts_at, bytes_at, set_bytes, is_held, is_lent, is_page, no_counts, IsShaped, AreLoansOwned}
 use Rattle.genie_frame.specs.Frames.{stored, more_copied, loan_ended, one_input_less}
@@ -17,9 +16,9 @@ use Rattle.genie_object.specs.declared.pages.Place.TheVariants.{Frame}
 use Rattle.genie_object.specs.declared.memory.Memory.{Memory}
 use Rattle.genie_object.specs.Pages.{PageTable, page_at, is_there}
 use Rattle.genie_object.specs.Objects.{entry_at, object_at, names}
-use Rattle.genie_object.specs.Memory.{Seen, seen, see_entry, see_kept, entry_frame}
+use Rattle.genie_object.specs.Memory.{seen, see_entry, see_kept, entry_frame}
 use Rattle.genie_object.specs.Sound.{IsSound, IsPrivate}
-use Rattle.genie_object.specs.Touching.{Touches, IsOutside, is_entry, system_owner}
+use Rattle.genie_object.specs.Touching.{Touches, is_entry, system_owner}
 use Rattle.genie_object.specs.Costs.{Spends, place_of}
 use Rattle.genie_object.specs.Lemmas.Touching.{touches_on, sound_metered}
 use Rattle.genie_object.specs.Lemmas.Showing.{seen_landed, keeps_sound}
@@ -28,15 +27,15 @@ use Rattle.genie_plan.specs.Loans.{input_loan, ended}
 use Rattle.genie_plan.specs.Lemmas.Ranges.{times-cons}
 use Rattle.genie_plan.specs.Lemmas.Landings.{entry_size}
 use Rattle.genie_swap.specs.Beside.{LeavesOthers}
-use Rattle.genie_swap.specs.Entries.{IsUnheld, IsSwapped, SwapsOne}
+use Rattle.genie_object.specs.Leaving.{IsUnheld}
+use Rattle.genie_swap.specs.Entries.{SwapsOne}
 use Rattle.genie_object.specs.Lemmas.Naming.{same_entry}
-use Rattle.genie_finish.specs.Besides.{KeepsBesides}
 use Rattle.genie_input.specs.Buffers.{IsBuffer}
-use Rattle.genie_finish.specs.Storing.{StaysBuffer, StoresPage, completed}
+use Rattle.genie_finish.specs.Storing.{StoresPage, completed}
 use Rattle.genie_finish.proofs.Completed.{all_laid, spends_copied}
 use Rattle.genie_finish.proofs.Storing.{gone_sound, gone_shows, copied_shows, buffer_out, copied_meters, private_frame, counts_here, counts_else, owner_else, back_sound, back_owner, back_else, back_counts, back_meters, back_there, back_unheld, part_shows, buffer_page}
 use Rattle.genie_finish.proofs.Staying.{stays_copied, stays_swapped}
-use Rattle.genie_finish.proofs.Swapped.{SwapKeeps, swap_keeps, place_in, framed_place}
+use Rattle.genie_object.specs.Lemmas.PlaceOf.{place_in, framed_place}
 
 -- a memory that differs in its frames alone
 pub but_frames : (m n : Memory) → n.pages ≡ m.pages → n.objects ≡ m.objects → n.slots ≡ m.slots → n ≡ record m { frames = n.frames }
@@ -172,9 +171,8 @@ module _ (m : Memory) (t u : FrameTable) (o i f off n work : ℕ) (s : IsSound m
   complete_shows : (sl : ℕ → List ℕ) → seen (record m { frames = u }) sl ≡ see_kept (seen (record m { frames = t }) sl) f (bytes_at u f)
   complete_shows sl = ap (λ x. seen (record m { frames = x }) sl) is ∙ seen_landed (record m { frames = t }) f (bytes_at u f) sl back (ap is_page (back_owner m t f s b e shaped lent f) ∙ buffer_kept (owner_at m.frames f) b.own) (λ h. buffer_owned (owner_at m.frames f) b.own (sym (back_owner m t f s b e shaped lent f) ∙ h))
 
-  pub page_swapped : (new : Memory) → IsSound new → ((sl : ℕ → List ℕ) → seen new sl ≡ see_kept (see_entry (seen (record m { frames = u }) sl) o i (bytes_at u f)) f []) → new.frames ≡ record u { owners = new.frames.owners } → LeavesOthers o i (record m { frames = u }) new → IsSwapped (record m { frames = u }) new o i f → SwapsOne o i f (record m { frames = u }) new → Spends work 0 0 0 t.meters u.meters → StoresPage m new o i f off n work
-  page_swapped new sound shown frames others swapped one spends =
-      let x = swap_keeps (record m { frames = u }) new o i f complete_sound sound there swapped one in
+  pub page_swapped : (new : Memory) → IsSound new → ((sl : ℕ → List ℕ) → seen new sl ≡ see_kept (see_entry (seen (record m { frames = u }) sl) o i (bytes_at u f)) f []) → new.frames ≡ record u { owners = new.frames.owners } → LeavesOthers o i (record m { frames = u }) new → SwapsOne o i f (record m { frames = u }) new → Spends work 0 0 0 t.meters u.meters → StoresPage m new o i f off n work
+  page_swapped new sound shown frames others x spends =
       record {
         sound = sound;
         shows = λ sl told.
@@ -194,7 +192,7 @@ module _ (m : Memory) (t u : FrameTable) (o i f off n work : ℕ) (s : IsSound m
             | inr h ↦ inr (ap is_page (sym (owner_now g)) ∙ h.0, h.1)
           ];
           systems = λ g z. x.systems g (not_here f g z) ∙ ap system_owner (owner_now g);
-          entries = x.entries;
+          entries = x.sizes;
           number = x.number ∙ ap (λ (y : FrameTable). length y.owners) is ∙ ap (λ (y : FrameTable). length y.owners) e ∙ length-set m.frames.owners f _;
           page = ap (λ (y : FrameTable). y.page) frames ∙ ap (λ (y : FrameTable). y.page) is ∙ same_page;
           slots = x.slots;
@@ -202,6 +200,6 @@ module _ (m : Memory) (t u : FrameTable) (o i f off n work : ℕ) (s : IsSound m
         };
         ended = ap (λ (y : FrameTable). counts_at y f) frames ∙ none_now;
         landed = ap (λ (y : FrameTable). y.landed) frames ∙ ap (λ (y : FrameTable). y.landed) is ∙ ap (λ (y : FrameTable). y.landed) e;
-        added = x.added;
+        added = x.pages;
         spends = subst (λ (w : Meters). Spends work 0 0 0 w new.frames.meters) (back_meters m t f s b e shaped lent) (subst (λ (w : Meters). Spends work 0 0 0 t.meters w) (sym (ap (λ (y : FrameTable). y.meters) frames)) spends);
       }

@@ -1,7 +1,7 @@
 -- A page of a buffer is stored.
-use Rattle.std.proofs.Common.{◌≡◌, ◌≢◌, ℕ, zero, ◌+◌, ◌-◌, ◌<◌, ◌≤◌, Bool, true, false, List, [], ◌∷◌, length, refl, ap, sym, ◌∙◌, arith, subst, inl, inr, length-set, rules}
+use Rattle.std.proofs.Common.{◌≡◌, ◌≢◌, ℕ, ◌+◌, ◌-◌, ◌<◌, ◌≤◌, Bool, true, false, List, [], ◌∷◌, length, refl, ap, sym, ◌∙◌, arith, subst, inl, inr, length-set, rules}
 use Rattle.std.specs.Prelude.{Some, None, Option, ◌==◌, ◌&&◌, ◌||◌, nat_le, nat_lt, if◌then◌else◌}
-use Rattle.std.proofs.lemmas.List.{get_or-set_same, get_or-set_other, take_all}
+use Rattle.std.proofs.lemmas.List.{get_or-set_same, get_or-set_other}
 use Rattle.genie_base.specs.Bytes.{overlaid, part}
 use Rattle.genie_base.specs.Lemmas.Places.{same_or, num}
 use Rattle.genie_frame.specs.declared.frame.FrameId.{FrameId}
@@ -21,8 +21,8 @@ use Rattle.genie_plan.specs.Loans.{Loan, Strong, Weak, Input, input_loan, one_le
 use Rattle.genie_plan.specs.Lemmas.Ending.{ended_more, ended_none, loan_cons, frame_cons, other_test}
 use Rattle.genie_plan.specs.Ending.{CanEnd}
 use Rattle.genie_plan.specs.Lemmas.Ended.{ends_soundly}
-use Rattle.genie_swap.specs.Entries.{IsUnheld}
-use Rattle.genie_plan.specs.Lemmas.Landings.{entry_size, page_in}
+use Rattle.genie_object.specs.Leaving.{IsUnheld}
+use Rattle.genie_plan.specs.Lemmas.Landings.{page_in}
 use Rattle.genie_object.specs.declared.objects.Entry.{Entry}
 use Rattle.genie_object.specs.declared.pages.PageId.{PageId}
 use Rattle.genie_object.specs.declared.pages.Place.{Place}

@@ -8,7 +8,7 @@ ghost use Rattle.genie_object.specs.Sound.{IsSound, IsFramed, IsPrivate};
 ghost use Rattle.genie_object.specs.Memory.{seen, entry_frame};
 ghost use Rattle.genie_object.specs.Costs as cost;
 ghost use Rattle.genie_object.specs.Costs.{AreBelow, Spends};
-ghost use Rattle.genie_swap.specs.Entries.{IsUnheld};
+ghost use Rattle.genie_object.specs.Leaving.{IsUnheld};
 ghost use Rattle.genie_finish.specs.Storing as spec;
 ghost use Rattle.genie_input.specs.Buffers.{IsBuffer};
 ghost use Rattle.genie_finish.specs.Storing.{CanStore, StoresPage, completed, stored_work};

@@ -7,7 +7,9 @@ use Rattle.std.proofs.lemmas.List.Sums.{sum_by-cons, fails_before_first}
 use Rattle.genie_base.specs.Lemmas.Places.{num, same_or}
 use Rattle.genie_frame.specs.FrameTable.{owner_at, counts_at, is_lent}
 use Rattle.genie_object.specs.declared.memory.Memory.{Memory}
-use Rattle.genie_object.specs.Objects.{object_at}
+use Rattle.genie_object.specs.Pages.{is_there}
+use Rattle.genie_object.specs.Objects.{object_at, entry_at}
+use Rattle.genie_object.specs.Costs.{place_of}
 use Rattle.genie_object.specs.Memory.{seen}
 use Rattle.genie_object.specs.Sound.{IsSound, FitsHidden}
 use Rattle.genie_object.specs.Touching.{Touches, Lasts, system_owner}
@@ -15,9 +17,9 @@ use Rattle.genie_object.specs.Lemmas.Touching.{touches_more, touches_on, touches
 use Rattle.genie_object.specs.Lemmas.Lookup.{count_some, other_at}
 use Rattle.genie_hiding.specs.declared.hidden.Hidden.{Hidden}
 use Rattle.genie_hiding.specs.Hidden.{no_hidden, object_of, objects_of, is_of, others}
-use Rattle.genie_hiding.specs.Leaving.{Removes, is_object}
+use Rattle.genie_object.specs.Leaving.{Removes, is_object}
 use Rattle.genie_hiding.specs.Discarding.{Discards, has_object, is_object_of}
-use Rattle.genie_hiding.specs.Lemmas.Searching.{count_none}
+use Rattle.genie_object.specs.Lemmas.Lookup.{count_none}
 use Rattle.genie_hiding.specs.Lemmas.Naming.{cached_kept}
 use Rattle.genie_hiding.proofs.Kept.{count_skip, filter_skip, filter_none}
 use Rattle.genie_hiding.proofs.Fewer.{fits_rest, other_object}
@@ -30,6 +32,8 @@ pub record Discarding (pid : ℕ) (all kept : List Hidden) (old new : Memory) : 
   pub sound : IsSound new
   pub gone' : (o : ℕ) → is_object_of pid all o ≡ true → (is_object_of pid kept o ≡ true) ⊎ (object_at new.objects o ≡ [])
   pub entries : (slots : ℕ → List ℕ) (o i : ℕ) → is_object_of pid all o ≡ false → (seen new slots).entry_bytes o i ≡ (seen old slots).entry_bytes o i
+  pub same : (o i : ℕ) → is_object_of pid all o ≡ false → entry_at new.objects o i ≡ entry_at old.objects o i
+  pub places : (o i : ℕ) → is_object_of pid all o ≡ false → place_of new o i ≡ place_of old o i
   pub touches : Touches (λ o i. is_object_of pid all o) old new
   pub lent : (f : ℕ) → is_lent (counts_at old.frames f) ≡ true → Lasts old.frames new.frames f
   pub systems : (f : ℕ) → system_owner (owner_at new.frames f) ≡ system_owner (owner_at old.frames f)
@@ -37,6 +41,8 @@ pub record Discarding (pid : ℕ) (all kept : List Hidden) (old new : Memory) : 
   pub frames : new.frames ≡ record (old.frames) { owners = new.frames.owners }
   pub number : length new.frames.owners ≡ length old.frames.owners
   pub slots : length new.slots ≡ length old.slots
+  pub fewer : count_by is_there new.pages.pages ≤ count_by is_there old.pages.pages
+  pub most : new.pages.most ≡ old.pages.most
 
 pub discards_none : (pid : ℕ) (kept : List Hidden) (m : Memory) → IsSound m → FitsHidden m (objects_of kept) → Discarding pid kept kept m m
 discards_none pid kept m s f = record {
@@ -46,6 +52,8 @@ discards_none pid kept m s f = record {
   sound = s;
   gone' = λ o e. inl e;
   entries = λ slots o i e. refl;
+  same = λ o i e. refl;
+  places = λ o i e. refl;
   touches = touches_none (λ o i. is_object_of pid kept o) m;
   lent = λ f l. record { lent = l; bytes = refl; owner = inl refl };
   systems = λ f. refl;
@@ -53,6 +61,8 @@ discards_none pid kept m s f = record {
   frames = refl;
   number = refl;
   slots = refl;
+  fewer = omega arith;
+  most = refl;
 }
 
 -- a region of the process that is kept has one of these objects
@@ -122,6 +132,8 @@ module _ (pid : ℕ) (all kept : List Hidden) (old mid new : Memory) (k : ℕ) (
       ]
     ];
     entries = λ slots a i e. y.entries slots a i (quiet a (apart a e)) ∙ x.entries slots a i e;
+    same = λ a i e. y.others a i (quiet a (apart a e)) ∙ x.same a i e;
+    places = λ a i e. y.places a i (quiet a (apart a e)) ∙ x.places a i e;
     touches = touches_on (λ a i. is_object_of pid all a) old mid new x.touches (touches_more (is_object o) (λ a i. is_object_of pid all a) mid new (λ a i e. quiet a (apart a e)) y.touches);
     lent = λ f h. let u = x.lent f h in lasts_on old.frames mid.frames new.frames f u (y.lent f u.lent);
     systems = λ f. y.systems f ∙ x.systems f;
@@ -129,6 +141,8 @@ module _ (pid : ℕ) (all kept : List Hidden) (old mid new : Memory) (k : ℕ) (
     frames = y.frames ∙ (λ i. record (x.frames i) { owners = new.frames.owners });
     number = y.number ∙ x.number;
     slots = y.slots ∙ x.slots;
+    fewer = omega (arith, x.fewer, y.fewer);
+    most = y.most ∙ x.most;
   }
 
 -- the process has no region left
@@ -137,6 +151,8 @@ discards_all pid all kept old new none x = record {
   sound = x.sound;
   gone = λ o e. elim (x.gone' o e) [ inl w ↦ absurd (no_object o w) | inr w ↦ w ];
   entries = x.entries;
+  others = x.same;
+  places = x.places;
   touches = x.touches;
   lent = x.lent;
   systems = x.systems;
@@ -144,6 +160,8 @@ discards_all pid all kept old new none x = record {
   frames = x.frames;
   number = x.number;
   slots = x.slots;
+  fewer = x.fewer;
+  most = x.most;
 } where
   fewer : (o : ℕ) (xs : List Hidden) → count_by (has_object pid o) xs ≤ count_by (is_of pid) xs
   fewer o [] = omega arith

@@ -1,10 +1,7 @@
 pub mod Discarded
-pub mod Dropped
-pub mod Emptied
 pub mod Fewer
 pub mod Kept
 pub mod Marking
 pub mod Numbers
-pub mod Removed
 pub mod Shedding
 pub mod Trimmed

@@ -23,10 +23,10 @@ use Rattle.genie_object.specs.Touching.{Touches, is_entry}
 use Rattle.genie_object.specs.Lemmas.Lookup.{named, in_range, other_at, page_known}
 use Rattle.genie_object.specs.Lemmas.Entries.{naming_there, entry_or}
 use Rattle.genie_object.specs.Lemmas.Costing.{dear_same, read_same, write_same}
-use Rattle.genie_hiding.specs.Leaving.{dropped, CanDrop}
+use Rattle.genie_object.specs.Leaving.{dropped, CanDrop}
 use Rattle.genie_hiding.specs.Hidden.{is_hidden, is_visible, is_among, outside}
 use Rattle.genie_hiding.specs.Rooms.{MakesRoom, visible_pages}
-use Rattle.genie_hiding.proofs.Dropped.{sound_dropped, seen_dropped, keeps_dropped, touches_dropped, page_other, at_here}
+use Rattle.genie_object.specs.Lemmas.Dropped.{sound_dropped, seen_dropped, keeps_dropped, touches_dropped, page_other, at_here}
 use Rattle.genie_hiding.specs.Lemmas.Searching.{count_same, named_hidden}
 use Rattle.genie_hiding.specs.Lemmas.Naming.{only_namer, cached_kept, same_visible, times_same, visible_unowned}
 use Rattle.genie_hiding.specs.Lemmas.Sweeping.{swept_one}

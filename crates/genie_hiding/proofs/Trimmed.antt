@@ -20,10 +20,10 @@ use Rattle.genie_hiding.specs.Hidden.{is_among}
 use Rattle.genie_hiding.specs.Lemmas.Searching.{among_found}
 use Rattle.genie_object.specs.Touching.{Touches, IsOutside, is_entry}
 use Rattle.genie_object.specs.Lemmas.Lookup.{other_at}
-use Rattle.genie_hiding.specs.Leaving.{is_object, Empties}
+use Rattle.genie_object.specs.Leaving.{is_object, Empties}
 use Rattle.genie_hiding.specs.Trimming.{MayStay, IsTrimmed, Stays, AllStay}
 use Rattle.genie_hiding.specs.Lemmas.Naming.{only_namer, names_page, cached_kept}
-use Rattle.genie_hiding.proofs.Emptied.{other_entry}
+use Rattle.genie_object.specs.Lemmas.Emptied.{other_entry}
 
 -- what may stay hidden may stay so after a call that doesn't speak of the entry
 pub stays_trimmed : (spoken : ℕ → ℕ → Bool) (old new : Memory) (o j : ℕ) → IsSound old → Touches spoken old new → spoken o j ≡ false → IsTrimmed old o j → IsTrimmed new o j

@@ -1,6 +1,5 @@
 pub mod Discarding
 pub mod Hidden
-pub mod Leaving
 pub mod Lemmas
 pub mod Marking
 pub mod Queues

@@ -9,15 +9,16 @@ ghost use Rattle.genie_object.specs.Objects.{object_at, entry_at, names};
 ghost use Rattle.genie_object.specs.Pages.{page_at};
 ghost use Rattle.genie_object.specs.Sound.{IsSound, FitsHidden};
 ghost use Rattle.genie_hiding.specs.Discarding.{Discards, is_object_of};
-ghost use Rattle.genie_hiding.specs.Leaving.{Empties, is_object};
+ghost use Rattle.genie_object.specs.Leaving.{Empties, is_object};
 ghost use Rattle.genie_hiding.specs.Trimming.{AllStay};
 ghost use Rattle.genie_hiding.specs.Rooms.{MakesRoom, IsShed, AllShed};
 ghost use Rattle.genie_hiding.specs.Hidden.{no_hidden, object_of, objects_of, others, is_of, is_hidden, is_among, has_hidden, is_same, region_at, without, AreFew, IsKept, IsTakenBack};
 ghost use Rattle.genie_hiding.specs.Marking.{marked, is_marked, MarksObject};
 
-use crate::leave::{drop_page, remove_object};
 use crate::trim::trim;
 use genie_base::{NoMemory, ObjectId};
+use genie_fault::leave::drop_page;
+use genie_fault::remove_object;
 use genie_frame::{FrameId, Owner};
 use genie_object::{Entry, EntryRef, Memory, Objects, PageId, Place};
 use genie_region::Region;

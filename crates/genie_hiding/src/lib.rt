@@ -2,7 +2,6 @@
 #![tactic(auto)]
 
 pub mod hidden;
-pub mod leave;
 pub mod trim;
 pub mod weak_queue;
 

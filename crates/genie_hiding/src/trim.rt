@@ -4,10 +4,10 @@ ghost use Rattle.genie_object.specs.Objects.{object_at, entry_at};
 ghost use Rattle.genie_object.specs.Pages.{page_at};
 ghost use Rattle.genie_object.specs.Sound.{IsSound};
 ghost use Rattle.genie_object.specs.Touching.{is_entry};
-ghost use Rattle.genie_hiding.specs.Leaving.{Empties, is_object};
+ghost use Rattle.genie_object.specs.Leaving.{Empties, is_object};
 ghost use Rattle.genie_hiding.specs.Trimming.{MayStay, IsTrimmed, AllStay};
 
-use crate::leave::leave_page;
+use genie_fault::empty_entry;
 use genie_object::{EntryRef, Memory, ObjectId, PageId, Place};
 
 // Whether the page may stay hidden.
@@ -41,7 +41,7 @@ fn trim_entry(memory: &mut Memory, at: EntryRef)
     let entry = memory.objects.entry(at);
     if let Some(page) = entry.page {
         if !may_stay(memory, page) {
-            leave_page(memory, at, page);
+            empty_entry(memory, at);
         }
     }
 }

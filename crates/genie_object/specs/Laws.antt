@@ -1,17 +1,18 @@
 -- What the steps that calls of a memory are made of leave: a sound memory that shows what it showed.
-use Rattle.std.specs.Prelude.{◌≡◌, ◌≢◌, ℕ, ◌<◌, Bool, true, false, List, [], None, length}
+use Rattle.std.specs.Prelude.{◌≡◌, ◌≢◌, ℕ, ◌<◌, Bool, true, false, List, [], Some, None, length}
 use Rattle.genie_frame.specs.declared.frame.FrameId.{FrameId}
-use Rattle.genie_frame.specs.declared.frame.Owner.TheVariants.{Free}
-use Rattle.genie_frame.specs.FrameTable.{owner_at, counts_at, is_held}
+use Rattle.genie_frame.specs.declared.frame.Owner.TheVariants.{Free, Page}
+use Rattle.genie_frame.specs.FrameTable.{owner_at, counts_at, is_held, set_counts}
+use Rattle.genie_frame.specs.Frames.{loan_ended, one_strong_more, one_output_less}
 use Rattle.genie_object.specs.declared.pages.Place.{Place}
 use Rattle.genie_object.specs.declared.pages.Place.TheVariants.{Frame, Slot}
 use Rattle.genie_object.specs.declared.pages.PageId.{PageId}
 use Rattle.genie_object.specs.declared.memory.Memory.{Memory}
 use Rattle.genie_object.specs.Pages.{page_at}
 use Rattle.genie_object.specs.Objects.{entry_at, object_at, names}
-use Rattle.genie_object.specs.Memory.{seen, see_entry, place_bytes, zeros}
+use Rattle.genie_object.specs.Memory.{seen, see_entry, place_bytes, zeros, entry_frame}
 use Rattle.genie_object.specs.Sound.{IsSound, IsFramed, IsPrivate}
-use Rattle.genie_object.specs.Steps.{relocated, CanGo, filled, renamed, CanRename, granted, shared, CanShare}
+use Rattle.genie_object.specs.Steps.{relocated, CanGo, filled, renamed, CanRename, granted, forbidden, shared, CanShare}
 use Rattle.genie_object.specs.Leaving.{dropped, left, removed, emptied_entry, place_gone, see_gone, IsOwnPage, IsSharedPage, IsUnheld, IsEmpty, Empties, Removes}
 use Rattle.genie_object.specs.Touching.{KeepsLoans, is_entry}
 
@@ -120,3 +121,27 @@ EmptiesSoundly = (m : Memory) (o i : ℕ) → IsSound m → EmptiesEntry m o i
 -- an object of empty entries that is taken away leaves the memory sound, and shows what was seen before
 abbrev pub RemovesUnseen : Type 0
 RemovesUnseen = (m : Memory) (o : ℕ) (slots : ℕ → List ℕ) → IsSound m → object_at m.objects o ≢ [] → ((i : ℕ) → i < length (object_at m.objects o) → IsEmpty m o i) → Removes o m (removed m o) × (seen (removed m o) slots ≡ seen m slots)
+
+-- an entry that loses its permission to be written leaves the memory sound, keeps all loans, and shows what it showed
+pub record Forbids (m : Memory) (o i : ℕ) : Type 0 where
+  pub sound : IsSound (forbidden m o i)
+  pub keeps : KeepsLoans m (forbidden m o i)
+  pub shown : (slots : ℕ → List ℕ) → seen (forbidden m o i) slots ≡ seen m slots
+
+abbrev pub ForbidsUnseen : Type 0
+ForbidsUnseen = (m : Memory) (o i : ℕ) → IsSound m → i < length (object_at m.objects o) → Forbids m o i
+
+-- a page's frame may be lent strongly: no device holds the page, and no entry may write it
+pub record CanLendStrong (m : Memory) (f p : ℕ) : Type 0 where
+  pub sound : IsSound m
+  pub owner : owner_at m.frames f ≡ Page p
+  pub unheld : is_held (counts_at m.frames f) ≡ false
+  pub unwritable : (a b : ℕ) → entry_frame m a b ≡ Some f → (entry_at m.objects a b).writable ≡ false
+
+-- a strong loan that begins or ends on a page's frame leaves the memory sound
+pub record Lends (m : Memory) (f : ℕ) : Type 0 where
+  pub begins : IsSound (record m { frames = set_counts m.frames f (one_strong_more (counts_at m.frames f)) })
+  pub ends : IsSound (record m { frames = loan_ended m.frames f (one_output_less true (counts_at m.frames f)) })
+
+abbrev pub LendsSoundly : Type 0
+LendsSoundly = (m : Memory) (f p : ℕ) → CanLendStrong m f p → Lends m f

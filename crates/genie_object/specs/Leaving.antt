@@ -11,6 +11,7 @@ use Rattle.genie_object.specs.Objects.{entry_at, object_at, set_entry, no_entry}
 use Rattle.genie_object.specs.Memory.{Seen, seen, see_kept, entry_frame}
 use Rattle.genie_object.specs.Sound.{IsSound}
 use Rattle.genie_object.specs.Steps.{left_owners, left_slots, left_pages}
+use Rattle.genie_object.specs.Costs.{place_of}
 use Rattle.genie_object.specs.Touching.{Touches, Lasts, system_owner}
 
 -- the memory once entry i of object o has left page p, which goes with it
@@ -76,12 +77,13 @@ IsUnheld m o i = (f : ℕ) → entry_frame m o i ≡ Some f → is_held (counts_
 abbrev pub IsEmpty : Memory → ℕ → ℕ → Type 0
 IsEmpty m o i = (entry_at m.objects o i).page ≡ None
 
--- what a call that empties these entries leaves: every other entry is as it was and shows what it showed, a lent frame
--- stays lent, and of the frames nothing but owners has changed
+-- what a call that empties these entries leaves: every other entry is as it was, has its page where it was, and shows
+-- what it showed; a lent frame stays lent, and of the frames nothing but owners has changed
 pub record Empties (spoken : ℕ → ℕ → Bool) (old new : Memory) : Type 0 where
   pub sound : IsSound new
   pub entries : (slots : ℕ → List ℕ) (a b : ℕ) → spoken a b ≡ false → (seen new slots).entry_bytes a b ≡ (seen old slots).entry_bytes a b
   pub others : (a b : ℕ) → spoken a b ≡ false → entry_at new.objects a b ≡ entry_at old.objects a b
+  pub places : (a b : ℕ) → spoken a b ≡ false → place_of new a b ≡ place_of old a b
   pub touches : Touches spoken old new
   pub lent : (f : ℕ) → is_lent (counts_at old.frames f) ≡ true → Lasts old.frames new.frames f
   pub systems : (f : ℕ) → system_owner (owner_at new.frames f) ≡ system_owner (owner_at old.frames f)
@@ -99,12 +101,14 @@ removed m o = record m { objects = slice_set m.objects o [] }
 abbrev pub is_object : ℕ → ℕ → ℕ → Bool
 is_object o a b = a == o
 
--- what a call that takes an object away leaves: every other entry is as it was and shows what it showed
+-- what a call that takes an object away leaves: every other entry is as it was, has its page where it was, and shows
+-- what it showed
 pub record Removes (o : ℕ) (old new : Memory) : Type 0 where
   pub sound : IsSound new
   pub gone : object_at new.objects o ≡ []
   pub entries : (slots : ℕ → List ℕ) (a b : ℕ) → is_object o a b ≡ false → (seen new slots).entry_bytes a b ≡ (seen old slots).entry_bytes a b
   pub others : (a b : ℕ) → is_object o a b ≡ false → entry_at new.objects a b ≡ entry_at old.objects a b
+  pub places : (a b : ℕ) → is_object o a b ≡ false → place_of new a b ≡ place_of old a b
   pub touches : Touches (is_object o) old new
   pub lent : (f : ℕ) → is_lent (counts_at old.frames f) ≡ true → Lasts old.frames new.frames f
   pub systems : (f : ℕ) → system_owner (owner_at new.frames f) ≡ system_owner (owner_at old.frames f)

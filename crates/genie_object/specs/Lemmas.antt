@@ -6,14 +6,17 @@ pub mod Dropped
 pub mod Emptied
 pub mod Entries
 pub mod Filled
+pub mod Forbidden
 pub mod Granted
 pub mod Laws
 pub mod Left
+pub mod Lent
 pub mod Lookup
 pub mod Named
 pub mod Naming
 pub mod ObjectLaws
 pub mod Parted
+pub mod PlaceOf
 pub mod Relocated
 pub mod Removed
 pub mod Renamed

@@ -1,5 +1,5 @@
 //! Laws of a memory.
-ghost use Rattle.genie_object.specs.Laws.{MovesSoundly, ComesUnseen, GoesUnseen, RenamesSoundly, PartsUnseen, PermitsUnseen, SharesSoundly, DropsSoundly, LeavesSoundly, EmptiesSoundly, RemovesUnseen};
+ghost use Rattle.genie_object.specs.Laws.{MovesSoundly, ComesUnseen, GoesUnseen, RenamesSoundly, PartsUnseen, PermitsUnseen, ForbidsUnseen, LendsSoundly, SharesSoundly, DropsSoundly, LeavesSoundly, EmptiesSoundly, RemovesUnseen};
 ghost use Rattle.genie_object.specs.Keeping.{ShowsSame, ShowsCounts, ShowsStored, ShowsLanded, ShowsFrame, ShowsSameBytes, ShowsDisowned, ShowsGiven, ShowsTaken, ShowsLent, ShowsEnded, ShowsUnseenEnd, ShowsLastLoan, ShowsUnlent, KeepsSound};
 
 /// A step that leaves bytes, places and entries alone shows what was seen before.
@@ -148,4 +148,16 @@ pub fn emptied_entry_law()
 /// An object of empty entries that is taken away leaves the memory sound, and shows what was seen before.
 pub fn removed_object_law()
     ensures { RemovesUnseen }
+{}
+
+/// An entry that loses its permission to be written leaves the memory sound, keeps all loans, and shows what was seen
+/// before.
+pub fn forbidden_entry_law()
+    ensures { ForbidsUnseen }
+{}
+
+/// A strong loan that begins or ends on the frame of a page which no device holds, and which no entry may write, leaves
+/// the memory sound.
+pub fn strong_loan_law()
+    ensures { LendsSoundly }
 {}

@@ -27,10 +27,10 @@ unlent_strong c e = grind (arith, rules)
 unlent_held : (c : Counts) → is_lent c ≡ false → is_held c ≡ false
 unlent_held c e = grind (arith, rules)
 
-pub both_tests : (a b o i : ℕ) → a ≡ o → b ≡ i → ((a == o) && (b == i)) ≡ true
+both_tests : (a b o i : ℕ) → a ≡ o → b ≡ i → ((a == o) && (b == i)) ≡ true
 both_tests a b o i e d = grind (arith, rules)
 
-pub system_page : (q : ℕ) (o : Owner) → o ≡ Page q → is_system o ≡ true → ⊥
+system_page : (q : ℕ) (o : Owner) → o ≡ Page q → is_system o ≡ true → ⊥
 system_page q o e h = let bad : false ≡ true = sym (ap is_system e) ∙ h in cc
 
 module _ (m : Memory) (o i f : ℕ) (p : PageId) (x : CanFill m o i f p) where
@@ -43,7 +43,7 @@ module _ (m : Memory) (o i f : ℕ) (p : PageId) (x : CanFill m o i f p) where
   page_here : page_at new.pages.pages p.0 ≡ one_page (Frame frame)
   page_here = get_or-set_same m.pages.pages p.0 _ no_page x.spare
 
-  page_else : (q : ℕ) → q ≢ p.0 → page_at new.pages.pages q ≡ page_at m.pages.pages q
+  pub page_else : (q : ℕ) → q ≢ p.0 → page_at new.pages.pages q ≡ page_at m.pages.pages q
   page_else q n = get_or-set_other m.pages.pages p.0 q _ no_page n
 
   owner_here : owner_at new.frames f ≡ Page p.0
@@ -62,7 +62,7 @@ module _ (m : Memory) (o i f : ℕ) (p : PageId) (x : CanFill m o i f p) where
     λ s. let bad : Zero ≡ Frame g = sym (ap (λ (y : PageInfo). y.place) x.none) ∙ ap (λ n. (page_at m.pages.pages n).place) (sym s) ∙ e in cc,
   )
 
-  named_other : (a b : ℕ) (q : PageId) → (entry_at m.objects a b).page ≡ Some q → q.0 ≢ p.0
+  pub named_other : (a b : ℕ) (q : PageId) → (entry_at m.objects a b).page ≡ Some q → q.0 ≢ p.0
   named_other a b q e s = let some = named_shared m.pages.pages m.objects a b q x.sound.shared e in omega (arith, some, ap (λ n. (page_at m.pages.pages n).shares) s, none_shares)
 
   sound : IsSound new

@@ -19,8 +19,8 @@ use Rattle.genie_object.specs.Lemmas.Named.{counted_once}
 use Rattle.genie_object.specs.Lemmas.Showing.{named_within}
 use Rattle.genie_object.specs.Touching.{Touches, IsOutside}
 use Rattle.genie_object.specs.Lemmas.Lookup.{named}
-use Rattle.genie_object.specs.Lemmas.Entries.{naming_there, times_some}
-use Rattle.genie_hiding.specs.Leaving.{CanDrop}
+use Rattle.genie_object.specs.Lemmas.Entries.{naming_there}
+use Rattle.genie_object.specs.Leaving.{CanDrop}
 use Rattle.genie_hiding.specs.Hidden.{is_hidden, is_visible, has_hidden, is_among, times_hidden}
 use Rattle.genie_hiding.specs.Rooms.{Sweeps}
 use Rattle.genie_hiding.specs.Lemmas.Searching.{among, among_found, sum_same, count_same, named_hidden, hidden_by}
@@ -115,10 +115,6 @@ hidden_page objects hidden (Page p) e = record { page = p; is_page = refl; is_hi
 hidden_page objects hidden (System t) e = cc
 hidden_page objects hidden (Pool d) e = cc
 hidden_page objects hidden Nobody e = cc
-
--- a page that an entry names is there
-pub shared_some : (m : Memory) (o i : ℕ) (p : PageId) → IsSound m → (entry_at m.objects o i).page ≡ Some p → 0 < (page_at m.pages.pages p.0).shares
-shared_some m o i p s e = omega (arith, s.shared.counted p.0, times_some m.objects p.0 o i (named p (entry_at m.objects o i) e))
 
 -- hidden regions fit the memory after a call that doesn't speak of their entries
 pub fits_kept : (spoken : ℕ → ℕ → Bool) (old new : Memory) (hidden : List ℕ) → IsSound old → Touches spoken old new → ((o : ℕ) → length (object_at new.objects o) ≡ length (object_at old.objects o)) → ((o i : ℕ) → is_among o hidden ≡ true → spoken o i ≡ false) → FitsHidden old hidden → FitsHidden new hidden

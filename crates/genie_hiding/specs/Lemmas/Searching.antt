@@ -1,5 +1,5 @@
 -- Which entries of hidden regions name a page.
-use Rattle.std.proofs.Common.{◌≡◌, ◌≢◌, ℕ, ◌<◌, ◌≤◌, suc, zero, Bool, true, false, List, [], ◌∷◌, ◌++◌, refl, arith, ap, rules, length, get_or, sym, ◌∙◌, inl, inr, eq-eqb}
+use Rattle.std.proofs.Common.{◌≡◌, ℕ, ◌<◌, ◌≤◌, suc, zero, Bool, true, false, List, [], ◌∷◌, ◌++◌, refl, arith, ap, rules, length, get_or, sym, ◌∙◌, inl, inr, eq-eqb}
 use Rattle.std.specs.Prelude.{◌==◌, count_by, sum_by, nat_lt}
 use Rattle.std.proofs.Math.ListN.{get_or-map}
 use Rattle.std.proofs.lemmas.List.{length-map}
@@ -12,10 +12,6 @@ use Rattle.genie_object.specs.Objects.{entry_at, object_at, names, no_entry}
 use Rattle.genie_object.specs.Lemmas.Lookup.{count_some}
 use Rattle.genie_hiding.specs.declared.hidden.Hidden.{Hidden}
 use Rattle.genie_hiding.specs.Hidden.{no_hidden, object_of, objects_of, times_hidden, is_hidden, is_among}
-
-pub count_none : {X : Type 0} (q : X → Bool) (d : X) (xs : List X) → ((k : ℕ) → k < length xs → q (get_or xs k d) ≡ false) → count_by q xs ≡ 0
-count_none q d [] h = refl
-count_none q d (x ∷ xs) h = let e = ap num (h 0 (omega arith)) in omega (arith, sum_by-cons (λ y. num (q y)) x xs, e, count_none q d xs (λ k l. h (suc k) (omega arith)))
 
 pub sum_none : {X : Type 0} (g : X → ℕ) (d : X) (xs : List X) → ((k : ℕ) → k < length xs → g (get_or xs k d) ≡ 0) → sum_by g xs ≡ 0
 sum_none g d [] h = refl
@@ -74,10 +70,6 @@ named_hidden objects hidden o i p e n l =
 pub objects_pushed : (kept : List Hidden) (h : Hidden) → objects_of (kept ++ h ∷ []) ≡ objects_of kept ++ object_of h ∷ []
 objects_pushed [] h = refl
 objects_pushed (k ∷ kept) h = ap (λ xs. object_of k ∷ xs) (objects_pushed kept h)
-
-pub some_length : {X : Type 0} (xs : List X) → xs ≢ [] → 0 < length xs
-some_length [] n = absurd (n refl)
-some_length (x ∷ xs) n = omega arith
 
 pub record Passes {X : Type 0} (q : X → Bool) (d : X) (xs : List X) : Type 0 where
   pub at : ℕ

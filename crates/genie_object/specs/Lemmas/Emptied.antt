@@ -4,6 +4,7 @@ use Rattle.std.specs.Prelude.{◌==◌, ◌&&◌, Option, Some, None, if◌then�
 use Rattle.genie_object.specs.declared.pages.Place.{Place}
 use Rattle.genie_object.specs.declared.pages.Place.TheVariants.{Zero}
 use Rattle.genie_object.specs.declared.pages.PageId.{PageId}
+use Rattle.genie_object.specs.declared.pages.PageInfo.{PageInfo}
 use Rattle.genie_object.specs.declared.objects.Entry.{Entry}
 use Rattle.genie_object.specs.declared.memory.Memory.{Memory}
 use Rattle.genie_object.specs.Pages.{page_at}
@@ -13,16 +14,18 @@ use Rattle.genie_object.specs.Sound.{IsSound}
 use Rattle.genie_object.specs.Leaving.{dropped, left, left_one, left_by, emptied_entry, place_gone, see_gone, IsOwnPage, IsSharedPage, CanDrop, IsUnheld, IsEmpty, Empties, is_object}
 use Rattle.genie_object.specs.Touching.{KeepsLoans, is_entry}
 use Rattle.genie_object.specs.Lemmas.Entries.{entry_same, entry_or, entries_size}
+use Rattle.genie_object.specs.Lemmas.PlaceOf.{same_place}
 use Rattle.genie_object.specs.Lemmas.Naming.{named_shared}
 use Rattle.genie_object.specs.Lemmas.Touching.{touches_more, touches_on, touches_none, lasts_on, keeps_all}
-use Rattle.genie_object.specs.Lemmas.Dropped.{sound_dropped, shows_dropped, seen_dropped, keeps_dropped, entry_bytes, touches_dropped, lasts, systems, frame_dropped, fewer_dropped, left_length as owners_length, slots_length, there as dropped_there}
-use Rattle.genie_object.specs.Lemmas.Left.{here, sound_left, seen_left, keeps_left, touches_left, fewer_left, there as left_there}
+use Rattle.genie_object.specs.Lemmas.Dropped.{sound_dropped, shows_dropped, seen_dropped, keeps_dropped, entry_bytes, touches_dropped, lasts, systems, frame_dropped, fewer_dropped, page_other, unnamed_p, left_length as owners_length, slots_length, there as dropped_there}
+use Rattle.genie_object.specs.Lemmas.Left.{here, sound_left, seen_left, keeps_left, touches_left, fewer_left, place_kept, there as left_there}
 
 pub empties_none : (spoken : ℕ → ℕ → Bool) (m : Memory) → IsSound m → Empties spoken m m
 empties_none spoken m s = record {
   sound = s;
   entries = λ slots a b n. refl;
   others = λ a b n. refl;
+  places = λ a b n. refl;
   touches = touches_none spoken m;
   lent = λ f l. record { lent = l; bytes = refl; owner = inl refl };
   systems = λ f. refl;
@@ -47,6 +50,7 @@ empties_own m o i p x = record {
   sound = sound_dropped m o i p x;
   entries = λ slots a b n. entry_bytes m o i p x slots a b ∙ ap (λ v. if v then zeros m.frames else (seen m slots).entry_bytes a b) n;
   others = other_kept m o i (dropped_there m o i p x);
+  places = λ a b n. let same = other_kept m o i (dropped_there m o i p x) a b n in same_place (dropped m o i p.0) m a b same (λ q e. ap (λ (r : PageInfo). r.place) (page_other m o i p x q.0 (unnamed_p m o i p x a b q (ap (λ (t : Entry). t.page) same ∙ e))));
   touches = touches_dropped m o i p x (is_entry o i) (here o i);
   lent = λ f l. lasts m o i p x f l (frame_dropped m o i p x f);
   systems = λ f. systems m o i p x f (frame_dropped m o i p x f);
@@ -64,6 +68,7 @@ empties_shared m o i p x = record {
   sound = sound_left m o i p x;
   entries = λ slots a b n. ap (λ (t : Seen). t.entry_bytes a b) (seen_left m o i p x slots) ∙ ap (λ v. if v then zeros m.frames else (seen m slots).entry_bytes a b) n;
   others = other_kept m o i (left_there m o i p x);
+  places = λ a b n. same_place (left m o i p) m a b (other_kept m o i (left_there m o i p x) a b n) (λ q e. place_kept m o i p x q.0);
   touches = touches_left m o i p x (is_entry o i) (here o i);
   lent = λ f l. record { lent = l; bytes = refl; owner = inl refl };
   systems = λ f. refl;
@@ -123,6 +128,7 @@ empties_on spoken a b c x y = record {
   sound = y.sound;
   entries = λ slots o i e. y.entries slots o i e ∙ x.entries slots o i e;
   others = λ o i e. y.others o i e ∙ x.others o i e;
+  places = λ o i e. y.places o i e ∙ x.places o i e;
   touches = touches_on spoken a b c x.touches y.touches;
   lent = λ f l. let u = x.lent f l in lasts_on a.frames b.frames c.frames f u (y.lent f u.lent);
   systems = λ f. y.systems f ∙ x.systems f;
@@ -139,6 +145,7 @@ empties_more few many a b h x = record {
   sound = x.sound;
   entries = λ slots o i e. x.entries slots o i (h o i e);
   others = λ o i e. x.others o i (h o i e);
+  places = λ o i e. x.places o i (h o i e);
   touches = touches_more few many a b h x.touches;
   lent = x.lent;
   systems = x.systems;

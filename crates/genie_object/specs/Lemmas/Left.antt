@@ -39,7 +39,7 @@ module _ (m : Memory) (o i : ℕ) (p : PageId) (x : IsSharedPage m o i p) where
   now : (r : ℕ) → IsLeft (Some p) r (page_at m.pages.pages r) (page_at new.pages.pages r)
   now r = left_page m.pages (Some p) r many_of known_of
 
-  place_kept : (r : ℕ) → (page_at new.pages.pages r).place ≡ (page_at m.pages.pages r).place
+  pub place_kept : (r : ℕ) → (page_at new.pages.pages r).place ≡ (page_at m.pages.pages r).place
   place_kept r = (now r).place
 
   is_p : (r : ℕ) → is_named (Some p) r ≡ true → 1 < (page_at m.pages.pages r).shares

@@ -52,6 +52,10 @@ some_absent (suc n) h = refl
 pub object_in : (objects : List (List Entry)) (o : ℕ) → object_at objects o ≢ [] → o < length objects
 object_in objects o h = elim (cases_lt o (length objects)) [ inl l ↦ l | inr l ↦ absurd (h (past_end objects o [] l)) ]
 
+pub some_length : {X : Type 0} (xs : List X) → xs ≢ [] → 0 < length xs
+some_length [] n = absurd (n refl)
+some_length (x ∷ xs) n = omega arith
+
 there_is : (o : List Entry) → o ≢ [] → is_absent o ≡ false
 there_is [] h = absurd (h refl)
 there_is (x ∷ o) h = refl

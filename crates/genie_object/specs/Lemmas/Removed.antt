@@ -9,6 +9,7 @@ use Rattle.genie_object.specs.declared.pages.PageId.{PageId}
 use Rattle.genie_object.specs.Objects.{entry_at, object_at, names, no_entry}
 use Rattle.genie_object.specs.Memory.{seen, page_bytes}
 use Rattle.genie_object.specs.Sound.{IsSound, IsFramed, IsPrivate, times_named}
+use Rattle.genie_object.specs.Lemmas.PlaceOf.{place_in}
 use Rattle.genie_object.specs.Lemmas.ObjectLaws.{object_in}
 use Rattle.genie_object.specs.Touching.{Touches, is_entry}
 use Rattle.genie_object.specs.Leaving.{removed, IsEmpty, Empties, Removes, is_object}
@@ -86,6 +87,7 @@ module _ (old m : Memory) (o : ℕ) (x : Empties (is_object o) old m) (there : o
     gone = gone;
     entries = λ slots a b e. ap (λ (t : Entry). page_bytes m.frames m.pages.pages slots t.page) (entry_other a b (apart a b e)) ∙ x.entries slots a b e;
     others = λ a b e. entry_other a b (apart a b e) ∙ x.others a b e;
+    places = λ a b e. ap (λ (t : Entry). place_in m.pages.pages t.page) (entry_other a b (apart a b e)) ∙ x.places a b e;
     touches = record {
       entries = λ a b e. let n = entry_other a b (apart a b e) in let t = x.touches.entries a b e in record { page = ap (λ (t : Entry). t.page) n ∙ t.page; readable = λ w. t.readable (ap (λ (t : Entry). t.readable) (sym n) ∙ w); writable = λ w. t.writable (ap (λ (t : Entry). t.writable) (sym n) ∙ w) };
       pages = x.touches.pages;

@@ -1,14 +1,12 @@
-use Rattle.std.proofs.Common.{◌≡◌, ◌<◌, ◌-◌, ℕ, [], arith, sym, subst, ap, ◌∙◌, length}
-use Rattle.std.specs.Prelude.{count_by}
+use Rattle.std.proofs.Common.{◌-◌, [], sym, subst, ap, ◌∙◌}
 use Rattle.genie_frame.specs.FrameTable.{FrameTable, is_system, bytes_at}
 use Rattle.genie_frame.specs.declared.frame.Meters.{Meters}
 use Rattle.genie_object.specs.declared.memory.Memory.{Memory}
-use Rattle.genie_object.specs.Objects.{object_at}
-use Rattle.genie_object.specs.Pages.{is_there}
 use Rattle.genie_object.specs.Memory.{seen, see_entry, see_kept}
 use Rattle.genie_object.specs.Sound.{IsSound}
 use Rattle.genie_object.specs.Costs.{AreBelow, Spends}
-use Rattle.genie_swap.specs.Entries.{IsUnheld, IsSwapped, SwapsOne}
+use Rattle.genie_object.specs.Leaving.{IsUnheld}
+use Rattle.genie_swap.specs.Entries.{SwapsOne}
 use Rattle.genie_swap.specs.Beside.{LeavesOthers}
 use Rattle.genie_finish.proofs.Storing.{lent_input, back_sound, back_there, back_system, back_meters}
 use Rattle.genie_finish.proofs.Stored.{complete_sound, complete_unheld, complete_there, complete_owner, complete_unlent, page_swapped, but_frames}
@@ -49,6 +47,5 @@ returns-clause-stored c = page_swapped c.args.memory.now c.back_in.new.self c.co
     (λ sl. c.swap_in.ensures.seen sl ∙ ap (λ (x : Memory). see_kept (see_entry (seen x sl) c.args.at.object.0 c.args.at.index (bytes_at c.complete.new.memory.frames c.args.loan.frame.0)) c.args.loan.frame.0 []) (but_frames c.args.memory.now c.complete.new.memory c.complete.ensures.pages c.complete.ensures.objects c.complete.ensures.slots))
     c.swap_in.ensures.frames
     (subst (λ x. LeavesOthers c.args.at.object.0 c.args.at.index x c.swap_in.new.memory) (but_frames c.args.memory.now c.complete.new.memory c.complete.ensures.pages c.complete.ensures.objects c.complete.ensures.slots) c.swap_in.ensures.others)
-    (subst (λ x. IsSwapped x c.swap_in.new.memory c.args.at.object.0 c.args.at.index c.args.loan.frame.0) (but_frames c.args.memory.now c.complete.new.memory c.complete.ensures.pages c.complete.ensures.objects c.complete.ensures.slots) c.swap_in.ensures.swapped)
     (subst (λ x. SwapsOne c.args.at.object.0 c.args.at.index c.args.loan.frame.0 x c.swap_in.new.memory) (but_frames c.args.memory.now c.complete.new.memory c.complete.ensures.pages c.complete.ensures.objects c.complete.ensures.slots) c.swap_in.ensures.one)
     (subst (λ p. Spends (p - c.args.n) 0 0 0 c.back_in.new.self.meters c.complete.new.memory.frames.meters) (ap (λ (x : FrameTable). x.page) c.back_in.ensures.frames) c.complete.ensures.spends)

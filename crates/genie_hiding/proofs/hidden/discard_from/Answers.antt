@@ -5,7 +5,7 @@ use Rattle.genie_base.specs.Lemmas.Places.{any_default, num}
 use Rattle.genie_object.specs.Objects.{object_at}
 use Rattle.genie_hiding.specs.declared.hidden.Hidden.{Hidden}
 use Rattle.genie_hiding.specs.Hidden.{no_hidden, object_of, objects_of, is_of}
-use Rattle.genie_hiding.specs.Leaving.{Removes}
+use Rattle.genie_object.specs.Leaving.{Removes}
 use Rattle.genie_hiding.specs.Lemmas.Searching.{hidden_length, object_at_hidden}
 use Rattle.genie_hiding.specs.Lemmas.Naming.{kept_there}
 use Rattle.genie_hiding.proofs.Kept.{count_skip, kept_fewer}

@@ -1,6 +1,6 @@
 use Rattle.std.proofs.Common.{arith}
 use Rattle.genie_object.specs.Objects.{object_at, names, no_entry}
-use Rattle.genie_hiding.specs.Lemmas.Searching.{count_none}
+use Rattle.genie_object.specs.Lemmas.Lookup.{count_none}
 use Rattle.genie_hiding.proofs.hidden.index_of.Goals as goal
 
 pub returns-clause-none : goal.returns-clause-none

@@ -1,7 +1,7 @@
 use Rattle.std.proofs.Common.{arith}
 use Rattle.genie_object.specs.Touching.{is_entry}
-use Rattle.genie_hiding.specs.Leaving.{is_object}
-use Rattle.genie_hiding.proofs.Emptied.{empties_on, empties_more, entry_object}
+use Rattle.genie_object.specs.Leaving.{is_object}
+use Rattle.genie_object.specs.Lemmas.Emptied.{empties_on, empties_more, entry_object}
 use Rattle.genie_hiding.proofs.Trimmed.{trimmed_more, stays_more}
 use Rattle.genie_hiding.proofs.trim.trim.Goals as goal
 

@@ -1,5 +1,5 @@
 use Rattle.std.proofs.Common.{ℕ, ◌<◌}
-use Rattle.genie_hiding.specs.Leaving.{Empties, is_object}
+use Rattle.genie_object.specs.Leaving.{Empties, is_object}
 use Rattle.genie_hiding.specs.Trimming.{IsTrimmed, AllStay}
 use Rattle.genie_hiding.proofs.trim.trim.Given as goal
 

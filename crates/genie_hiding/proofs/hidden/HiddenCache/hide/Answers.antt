@@ -5,7 +5,8 @@ use Rattle.genie_object.specs.Sound.{FitsHidden}
 use Rattle.genie_hiding.specs.declared.hidden.Hidden.{Hidden}
 use Rattle.genie_hiding.specs.Hidden.{objects_of, is_of}
 use Rattle.genie_hiding.proofs.Kept.{room_left, kept_more}
-use Rattle.genie_hiding.specs.Lemmas.Searching.{objects_pushed, some_length}
+use Rattle.genie_hiding.specs.Lemmas.Searching.{objects_pushed}
+use Rattle.genie_object.specs.Lemmas.ObjectLaws.{some_length}
 use Rattle.genie_hiding.proofs.Trimmed.{fits_more, cached_trimmed}
 use Rattle.genie_hiding.proofs.hidden.HiddenCache.hide.Goals as goal
 

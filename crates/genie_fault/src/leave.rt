@@ -1,12 +1,13 @@
-//! An entry leaves its page.
-ghost use Rattle.std.specs.Prelude.{◌≡◌, ◌≢◌, ◌<◌, ℕ, [], true, false, length, Some, None};
+//! An entry leaves its page, and an object is taken away with its pages.
+ghost use Rattle.std.specs.Prelude.{◌≡◌, ◌≢◌, ◌<◌, ℕ, List, [], length, Some};
 ghost use Rattle.genie_object.specs.Objects.{object_at, entry_at};
+ghost use Rattle.genie_object.specs.Memory.{seen, see_entry, zeros};
 ghost use Rattle.genie_object.specs.Sound.{IsSound};
-ghost use Rattle.genie_object.specs.Touching.{is_entry};
-ghost use Rattle.genie_hiding.specs.Leaving.{IsOwnPage, IsSharedPage, Empties, IsEmpty, Removes, dropped, left, is_object};
+ghost use Rattle.genie_object.specs.Touching.{KeepsLoans, is_entry};
+ghost use Rattle.genie_object.specs.Leaving.{IsOwnPage, IsSharedPage, IsUnheld, IsEmpty, Empties, Removes, dropped, left, left_by, emptied_entry, is_object};
 
-use genie_fault::settle::leave_place;
-use genie_object::{Entry, EntryRef, Memory, ObjectId, PageId, Place};
+use crate::settle::leave_place;
+use genie_object::{Entry, EntryRef, Memory, ObjectId, PageId};
 
 const EMPTY: Entry = Entry {
     page: None,
@@ -14,7 +15,7 @@ const EMPTY: Entry = Entry {
     writable: false,
 };
 
-/// Takes the page of an entry away, which is its own.
+/// Takes the page of an entry away, which is its own. Its frame is free then, or nobody's while it is lent.
 pub fn drop_page(memory: &mut Memory, at: EntryRef, page: PageId)
     requires own { IsOwnPage memory.old at.object.0 at.index page }
     ensures { memory.new ≡ dropped memory.old at.object.0 at.index page.0 }
@@ -34,12 +35,11 @@ fn leave_shared(memory: &mut Memory, at: EntryRef, page: PageId)
     memory.pages.leave(page);
 }
 
-/// Empties an entry that names a page. The page goes with its last holder.
-pub fn leave_page(memory: &mut Memory, at: EntryRef, page: PageId)
+// Takes the page away that an entry names. The page goes with its last holder.
+fn leave_page(memory: &mut Memory, at: EntryRef, page: PageId)
     requires sound { IsSound memory.old }
     requires named { (entry_at memory.old.objects at.object.0 at.index).page ≡ Some page }
-    ensures empties { Empties (is_entry at.object.0 at.index) memory.old memory.new }
-    ensures empty { (entry_at memory.new.objects at.object.0 at.index).page ≡ None }
+    ensures { memory.new ≡ left_by memory.old at.object.0 at.index (Some page) }
 {
     if memory.pages.shares(page) == 1 {
         drop_page(memory, at, page);
@@ -49,16 +49,30 @@ pub fn leave_page(memory: &mut Memory, at: EntryRef, page: PageId)
 }
 
 // Empties an entry.
-fn empty_entry(memory: &mut Memory, at: EntryRef)
+fn leave_entry(memory: &mut Memory, at: EntryRef)
     requires sound { IsSound memory.old }
     requires there { at.index < length (object_at memory.old.objects at.object.0) }
-    ensures empties { Empties (is_entry at.object.0 at.index) memory.old memory.new }
-    ensures empty { IsEmpty memory.new at.object.0 at.index }
+    ensures { memory.new ≡ emptied_entry memory.old at.object.0 at.index }
 {
     let entry = memory.objects.entry(at);
     if let Some(page) = entry.page {
         leave_page(memory, at, page);
     }
+}
+
+/// Empties an entry. Its page stays with those that share it, and goes with its last holder: its slot is free then, and so
+/// is its frame, unless a loan is out, which makes it nobody's until the loan is back.
+pub fn empty_entry(memory: &mut Memory, at: EntryRef)
+    requires sound { IsSound memory.old }
+    requires there { at.index < length (object_at memory.old.objects at.object.0) }
+    ensures emptied { memory.new ≡ emptied_entry memory.old at.object.0 at.index }
+    ensures empty { IsEmpty memory.new at.object.0 at.index }
+    ensures empties { Empties (is_entry at.object.0 at.index) memory.old memory.new }
+    // Where no device holds the page, only the entry shows something else, and every loan is kept.
+    ensures seen { IsUnheld memory.old at.object.0 at.index → (slots : ℕ → List ℕ) → seen memory.new slots ≡ see_entry (seen memory.old slots) at.object.0 at.index (zeros memory.old.frames) }
+    ensures keeps { IsUnheld memory.old at.object.0 at.index → KeepsLoans memory.old memory.new }
+{
+    leave_entry(memory, at);
 }
 
 // Empties all entries of an object.

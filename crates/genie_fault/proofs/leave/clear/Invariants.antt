@@ -1,6 +1,6 @@
 use Rattle.std.proofs.Common.{ℕ, ◌<◌}
-use Rattle.genie_hiding.specs.Leaving.{Empties, IsEmpty, is_object}
-use Rattle.genie_hiding.proofs.leave.clear.Given as goal
+use Rattle.genie_object.specs.Leaving.{Empties, IsEmpty, is_object}
+use Rattle.genie_fault.proofs.leave.clear.Given as goal
 
 abbrev pub invariant-loop-index : goal.invariant-loop-index
 invariant-loop-index l = record {

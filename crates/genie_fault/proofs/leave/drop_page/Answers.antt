@@ -2,7 +2,7 @@ use Rattle.std.proofs.Common.{◌≡◌, ap, sym, ◌∙◌, eq-eqb}
 use Rattle.std.specs.Prelude.{Some}
 use Rattle.genie_object.specs.Pages.{page_at, left_place}
 use Rattle.genie_object.specs.Lemmas.Lookup.{frame_known}
-use Rattle.genie_hiding.proofs.leave.drop_page.Goals as goal
+use Rattle.genie_fault.proofs.leave.drop_page.Goals as goal
 
 pub leave_place-requires-clause-frame : goal.leave_place-requires-clause-frame
 leave_place-requires-clause-frame c = λ f e.

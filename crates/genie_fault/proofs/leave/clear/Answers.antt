@@ -1,9 +1,9 @@
 use Rattle.std.proofs.Common.{arith}
 use Rattle.genie_object.specs.Touching.{is_entry}
-use Rattle.genie_hiding.specs.Leaving.{is_object}
-use Rattle.genie_hiding.proofs.Emptied.{empties_on, empties_more, entry_object}
-use Rattle.genie_hiding.proofs.Removed.{empty_more}
-use Rattle.genie_hiding.proofs.leave.clear.Goals as goal
+use Rattle.genie_object.specs.Leaving.{is_object}
+use Rattle.genie_object.specs.Lemmas.Emptied.{empties_on, empties_more, entry_object}
+use Rattle.genie_object.specs.Lemmas.Removed.{empty_more}
+use Rattle.genie_fault.proofs.leave.clear.Goals as goal
 
 pub loop-index-preserved : goal.loop-index-preserved
 loop-index-preserved c =

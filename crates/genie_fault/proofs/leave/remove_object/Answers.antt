@@ -1,9 +1,9 @@
 use Rattle.std.proofs.Common.{◌≢◌, ◌<◌, [], ℕ, arith, ap, length}
 use Rattle.genie_object.specs.Objects.{object_at}
-use Rattle.genie_hiding.specs.Leaving.{IsEmpty}
-use Rattle.genie_hiding.specs.Lemmas.Searching.{some_length}
-use Rattle.genie_hiding.proofs.Removed.{removes, all_empty}
-use Rattle.genie_hiding.proofs.leave.remove_object.Goals as goal
+use Rattle.genie_object.specs.Leaving.{IsEmpty}
+use Rattle.genie_object.specs.Lemmas.ObjectLaws.{some_length}
+use Rattle.genie_object.specs.Lemmas.Removed.{removes, all_empty}
+use Rattle.genie_fault.proofs.leave.remove_object.Goals as goal
 
 pub remove-requires-clause-empty : goal.remove-requires-clause-empty
 remove-requires-clause-empty c = all_empty c.clear.new.memory c.args.object.0 (λ i l. c.clear.ensures.empty i (omega (arith, l, c.clear.ensures.empties.sizes c.args.object.0)))
