@@ -17,6 +17,7 @@ use Rattle.genie_region.specs.Layouts.{extent}
 use Rattle.genie_base.specs.declared.reply.Note.{Note}
 use Rattle.genie_model.specs.declared.phase.Phase.{Phase}
 use Rattle.genie_model.specs.Regions.{fresh, changed_in, change_process}
+use Rattle.genie_model.specs.Pending.{is_moving}
 use Rattle.genie_model.specs.Refusing.{refuse}
 use Rattle.genie_model.specs.Space.{tidy}
 use Rattle.genie_model.specs.State as flat
@@ -30,7 +31,7 @@ use Rattle.genie_kernel.specs.Counted.{AreCounted}
 use Rattle.genie_kernel.specs.Owners.{AreOwned}
 use Rattle.genie_kernel.specs.Held.{AreHeldPages}
 use Rattle.genie_kernel.specs.Planned.{ArePlanned, FitDevices}
-use Rattle.genie_kernel.specs.Calls.{has_number}
+use Rattle.genie_kernel.specs.Calls.{has_number, receiver}
 use Rattle.genie_kernel.specs.Good.{IsGood}
 use Rattle.genie_kernel.specs.Kept.{Kept}
 use Rattle.genie_kernel.specs.Matching.{posted_as, is_posted_call}
@@ -113,3 +114,7 @@ pub record KeepsLending (k : Kernel) (transfers : List Transfer) : Type 0 where
 -- how far a transfer has come is no matter of its loans
 abbrev pub ProgressKeepsLending : Type 0
 ProgressKeepsLending = (phase : Phase) (buffer : Option ℕ) (stored : ℕ) (note : Note) (k : Kernel) (n : ℕ) → IsGood k → KeepsLending k (change (has_number n) (changed_by (Progress phase buffer stored note)) k.transfers)
+
+-- an input that is receiving is the one into which its device moves the datagram, so there is one of a device at most
+abbrev pub MovingAreReceivers : Type 0
+MovingAreReceivers = (k : Kernel) → IsGood k → All (λ (t : Transfer). is_moving t.phase ≡ true → receiver k.transfers t.dev ≡ Some t) k.transfers

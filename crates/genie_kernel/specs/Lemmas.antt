@@ -16,6 +16,7 @@ pub mod Orphaned
 pub mod Owning
 pub mod Processes
 pub mod Progress
+pub mod Receiving
 pub mod Removing
 pub mod Searching
 pub mod Staying

@@ -1,6 +1,6 @@
 //! Laws of kernels.
 ghost use Rattle.genie_kernel.specs.Handles.{CallsKeepHandles, CallsKeepOthers};
-ghost use Rattle.genie_kernel.specs.Laws.{ViewIsTidy, StatesAreAlike, LentFramesSuffice, RefusesAlike, FreshIsAlike, RestsAreBlind, MemoryCallsKeepGood, MemoryCallsKeepLent, HiddenStay, GuardsStay, RegionsChange, OwnedGrows, PostedShrinks, TransfersTurn, ProgressKeepsLending};
+ghost use Rattle.genie_kernel.specs.Laws.{ViewIsTidy, StatesAreAlike, LentFramesSuffice, RefusesAlike, FreshIsAlike, RestsAreBlind, MemoryCallsKeepGood, MemoryCallsKeepLent, HiddenStay, GuardsStay, RegionsChange, OwnedGrows, PostedShrinks, TransfersTurn, ProgressKeepsLending, MovingAreReceivers};
 ghost use Rattle.genie_kernel.specs.Lending.{CountsGrow, CountsShrink};
 ghost use Rattle.genie_kernel.specs.Holding.{HeldMore, HeldLess, HeldAsOrphans};
 ghost use Rattle.genie_kernel.specs.Owning.{OwnedMore, OwnedLess};
@@ -106,6 +106,11 @@ pub fn held_pages_follow_transfers()
 /// How far a transfer has come is no matter of its loans: whose the frames are, and which pages devices hold.
 pub fn progress_keeps_lending()
     ensures { ProgressKeepsLending }
+{}
+
+/// An input that is receiving is the one into which its device moves the datagram: there is one of a device at most.
+pub fn moving_are_receivers()
+    ensures { MovingAreReceivers }
 {}
 
 /// A call on one handle leaves the handles of the configuration open in their directions.
