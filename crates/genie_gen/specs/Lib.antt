@@ -1,5 +1,6 @@
 pub mod Draws
 pub mod GenView
+pub mod Lemmas
 pub mod Rounds
 pub mod Sources
 pub mod Streams

@@ -2,6 +2,7 @@ pub mod Boots
 pub mod Exits
 pub mod Filing
 pub mod Gathering
+pub mod Making
 pub mod Opening
 pub mod Reading
 pub mod Remaining

@@ -1,10 +1,13 @@
 pub mod Booted
 pub mod Booting
 pub mod Files
+pub mod Forms
 pub mod Inputs
 pub mod Lines
+pub mod Makes
 pub mod Outcome
 pub mod Plays
 pub mod Serving
 pub mod Statuses
+pub mod Summaries
 pub mod Write

@@ -1,5 +1,5 @@
 -- What each status says of the script, of the replies and of the devices' outputs.
-use Rattle.std.specs.Prelude.{◌≡◌, ◌≢◌, ◌⊎◌, ℕ, Bool, false, List, [], ◌∷◌, ◌++◌, codes, flat_map, map, Option, None, Some, ⊤, if◌then◌else◌, ◌&&◌, bytes_eq, nat_lt, length, not, ◌==◌}
+use Rattle.std.specs.Prelude.{◌≡◌, ◌≢◌, ◌⊎◌, ℕ, List, [], ◌∷◌, ◌++◌, codes, flat_map, map, Option, None, Some, ⊤}
 use Rattle.std.specs.Io.KnownBytes.{Appends, Keeps}
 use Rattle.genie_base.specs.Causes.{Rose}
 use Rattle.genie_base.specs.Configs.{Config}
@@ -22,16 +22,6 @@ use Rattle.genie_replay.specs.Files.{HandleRose, HoldsOfOutputs, IsUnwritten, Tr
 use Rattle.genie_replay.specs.Inputs.{IsBoot}
 use Rattle.genie_replay.specs.Statuses.{status_of}
 use Rattle.genie_replay.specs.Write.{AppendsFront, AppendsUpToLast}
-
--- a script's name has 1 to 4,096 bytes, and doesn't begin with `-`
-abbrev pub is_script_name : List ℕ → Bool
-is_script_name [] = false
-is_script_name (b ∷ bs) = not (b == 45) && nat_lt (length bs) 4096
-
--- the script that the words name, if they are those of the command
-abbrev pub script_of : List (List ℕ) → Option (List ℕ)
-script_of (word ∷ name ∷ []) = if bytes_eq word (codes "replay") && is_script_name name then Some name else None
-script_of words = None
 
 abbrev pub texts : List Reply → List ℕ
 texts replies = flat_map reply_text replies

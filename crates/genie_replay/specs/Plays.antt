@@ -1,7 +1,6 @@
 -- What the run of the lines behind the boot part does.
 use Rattle.std.specs.Prelude.{◌≡◌, ◌≢◌, ◌≤◌, ℕ, IsSome, IfSome, List, ◌++◌, map, Option, None, Some, ⊤}
 use Rattle.std.specs.Io.KnownBytes.{Appends}
-use Rattle.genie_base.specs.declared.reply.Reply.{Reply}
 use Rattle.genie_host.specs.Host.{HostView}
 use Rattle.genie_orderly.specs.Steps.{ShowNoFault}
 use Rattle.genie_model.specs.State.{State}

@@ -2,18 +2,21 @@
 #![tactic(auto)]
 
 mod booting;
+pub mod command;
 mod files;
 mod inputs;
+mod make;
 mod play;
-pub mod replay;
+mod replay;
 pub mod script;
 mod serving;
 pub mod status;
+mod summary;
 #[cfg(test)]
 mod tests;
 pub mod write;
 
-pub use crate::replay::run;
+pub use crate::command::run;
 pub use crate::script::{LineStep, Script};
 pub use crate::status::{Status, put_status};
 pub use crate::write::write_all;

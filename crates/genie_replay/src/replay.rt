@@ -1,11 +1,11 @@
-//! The top call.
-ghost use Rattle.std.specs.Prelude.{◌≡◌, ◌≢◌, ◌≤◌, ◌↔◌, IsNone, IsSome, IfSome, length, map, string_bytes};
+//! Replaying a script.
+ghost use Rattle.std.specs.Prelude.{◌≡◌, ◌≢◌, ◌≤◌, IsSome, IfSome, length};
 ghost use Rattle.std.specs.Io.KnownBytes.{prepend_known};
 ghost use Rattle.genie_host.specs.Host.{Reading};
 ghost use Rattle.genie_replay.specs.Booted.{RunsBooted, RunsFrom};
 ghost use Rattle.genie_replay.specs.Files.{HandleRose, HoldsOfInputs, HoldsOfOutputs, IsReading, IsWriting, last_handle};
 ghost use Rattle.genie_replay.specs.Plays.{IsFirst};
-ghost use Rattle.genie_replay.specs.Outcome.{FaultOf, OutcomeOf, is_script_name, script_of};
+ghost use Rattle.genie_replay.specs.Outcome.{FaultOf, OutcomeOf};
 
 use crate::booting::{BootRead, read_boot};
 use crate::files::{open_files, write_files};
@@ -19,18 +19,6 @@ use genie_flat::Flat;
 use genie_host::{Host, OpenRefused};
 use genie_script::{BootPart, DeviceLine, LineBuffer};
 use std::alloc::Global;
-
-/// The most bytes of a script's name.
-const LONGEST_NAME: usize = 4096;
-
-fn is_name_of_script(name: &[u8]) -> bool
-    ensures { result ≡ is_script_name name.now }
-{
-    match name.split_first() {
-        None => false,
-        Some((first, rest)) => *first != b'-' && rest.len() < LONGEST_NAME,
-    }
-}
 
 // Writes the reply to the boot part, steps the events, and then writes what the devices sent.
 fn run_started<H: Host>(
@@ -105,8 +93,8 @@ fn run_booted<H: Host>(
     }
 }
 
-// Replays the script of this name.
-fn replay<H: Host>(alloc: Global, host: &mut H, name: &[u8]) -> Status
+/// Replays the script of this name.
+pub(crate) fn replay<H: Host>(alloc: Global, host: &mut H, name: &[u8]) -> Status
     requires { (H.view host.old).opened ≡ 0 }
     ensures outcome { OutcomeOf name.now ((H.view host.old).names name.now) (H.view host.old) (H.view host.new) result }
     ensures fault { FaultOf (H.view host.old) (H.view host.new) result }
@@ -146,27 +134,5 @@ fn replay<H: Host>(alloc: Global, host: &mut H, name: &[u8]) -> Status
         ),
         Err(OpenRefused::Memory) => Status::NoMemory,
         Err(OpenRefused::Failed) => Status::HostFault,
-    }
-}
-
-/// Replays the script that the words name: `replay` and a name. Its replies go to handle 0 of the host, and what each
-/// device sends to the output that the script names for it.
-pub fn run<H: Host>(alloc: Global, words: &[String], host: &mut H) -> Status
-    requires { (H.view host.old).opened ≡ 0 }
-    // The words are wrong exactly with `Usage`.
-    ensures usage { (result ≡ Status.Usage) ↔ IsNone (script_of (map string_bytes words.now)) }
-    // With `Usage` the host is as before.
-    ensures untouched { result ≡ Status.Usage → H.view host.new ≡ H.view host.old }
-    // The replies and the outputs are those of the flat machine.
-    ensures outcome { IfSome (script_of (map string_bytes words.now)) (λ name.
-        OutcomeOf name ((H.view host.old).names name) (H.view host.old) (H.view host.new) result) }
-    // `HostFault` comes only where a count rose: that of an open handle, or of the openings.
-    ensures fault { FaultOf (H.view host.old) (H.view host.new) result }
-{
-    match words {
-        [command, name] if command.as_str() == "replay" && is_name_of_script(name.as_bytes()) => {
-            replay(alloc, host, name.as_bytes())
-        }
-        _ => Status::Usage,
     }
 }

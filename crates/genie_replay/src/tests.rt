@@ -207,9 +207,23 @@ fn lines_at_the_longest(rt: HostRuntime) -> Result<(), Fail> {
 fn words_that_are_no_command(rt: HostRuntime) -> Result<(), Fail> {
     let none: &[&str] = &[];
     let ends = quiet(Status::Usage, b"");
-    for words in [none, &["replay"], &["replay", "-s"], &["replay", "s", "s"]] {
+    for words in [none, &["replay", "-s"], &["make", "1", "0"], &["cost", "s"]] {
         assert!(rt; runs_so(rt.alloc(), words, FIRST, Trouble::Nothing, &ends)?);
     }
+    Ok(())
+}
+
+// The replies of this run were derived by hand from the script, and the digest is that of their text.
+const SUMMARY: &[u8] =
+    b"events 30\nerr 0\nfaults 0\nsent 119\ngot 99\nsha256 4d312fb3dd523634b74c3a2577dcea3bf6146b287a63bc2da2dd5d3b635eeeb6\n";
+
+#[test]
+fn a_made_run_is_summed_up(rt: HostRuntime) -> Result<(), Fail> {
+    let make: &[&str] = &["make", "1", "1"];
+    let done = quiet(Status::Done, SUMMARY);
+    assert!(rt; runs_so(rt.alloc(), make, FIRST, Trouble::Nothing, &done)?);
+    let cut = quiet(Status::HostFault, &SUMMARY[..50]);
+    assert!(rt; runs_so(rt.alloc(), make, FIRST, Trouble::FailAt(b"", 50), &cut)?);
     Ok(())
 }
 

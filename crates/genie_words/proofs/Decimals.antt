@@ -7,16 +7,6 @@ use Rattle.std.proofs.lemmas.Str.Parse.{IsNumeralModel, numerals_by_fold}
 use Rattle.std.proofs.lemmas.Slice.Eq.{bytes_eq-Decides}
 use Rattle.std.proofs.lemmas.Fmt.{digits_decimal, parse-decimal}
 
-abbrev value_on : ℕ → List ℕ → ℕ
-value_on n [] = n
-value_on n (c ∷ cs) = value_on (10 * n + (c - 48)) cs
-
-own : IsNumeralModel (λ ds. all_ascii_digits ds ≡ true) (value_on 0)
-own = numerals_by_fold _ (search rules) value_on (search rules)
-
-pub digits_of_decimal : (n : ℕ) → n < 2 ^ 64 → all_ascii_digits (decimal n) ≡ true
-digits_of_decimal n lt = digits_decimal own n lt
-
 abbrev read_as : (E : Type 0) → ℕ → Result ℕ E
 read_as E n = Ok n
 

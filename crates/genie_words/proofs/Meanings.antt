@@ -2,7 +2,7 @@
 use Rattle.std.proofs.Common.{◌≡◌, ℕ, List, [], ◌∷◌, length, refl, true, false, decimal, arith, rules}
 use Rattle.std.specs.Prelude.{Bool, ◌==◌, not, ◌&&◌, nat_lt}
 use Rattle.std.specs.Str.{all_ascii_digits}
-use Rattle.genie_words.proofs.Decimals.{digits_of_decimal}
+use Rattle.genie_words.specs.Lemmas.Meanings.{digits_of_decimal}
 use Rattle.genie_words.specs.Shapes.{is_asked, is_plain}
 use Rattle.genie_words.specs.Forms.{Meaning, ReplayOf, CostOf, MakeOf, Means, IsNoForm, is_script_name}
 

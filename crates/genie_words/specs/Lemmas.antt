@@ -1,0 +1,2 @@
+-- Lemmas on the forms, for the crates above.
+pub mod Meanings
