@@ -9,7 +9,7 @@ use Rattle.genie_kernel.specs.declared.transfer.Transfer.{Transfer}
 use Rattle.genie_kernel.specs.Calls.{region_number, is_strong_call}
 use Rattle.genie_kernel.specs.Held.{PageOf, AreHeldPages, HoldsPages, page_of_loan, weak_transfers}
 use Rattle.genie_kernel.specs.Loans.{frames_of}
-use Rattle.genie_changes.proofs.Lists.{all_more}
+use Rattle.genie_changes.proofs.Lists.{append_none, all_more}
 use Rattle.genie_changes.specs.Pages.{HoldsBeside}
 
 abbrev same_region : Option ℕ → Option ℕ → Bool
@@ -148,10 +148,6 @@ module _ (page : ℕ) (m : Memory) (rs : List Region) (t : Transfer) (ts : List 
         (λ k d l. let u = get_or (weak_transfers ts) k d in let there = has_at (weak_transfers ts) k d l in let was = h.each k d l in record { pages = earlier_page u there was; frames = earlier_frame u there was; held = was.held })
         (record { pages = later_page; frames = later_frame; held = beside.held }));
   }
-
-append_none : {X : Type 0} (xs : List X) → xs ++ [] ≡ xs
-append_none [] = refl
-append_none (x ∷ xs) = ap (λ l. x ∷ l) (append_none xs)
 
 -- a strong one holds no page
 pub held_beside_strong : (page : ℕ) (m : Memory) (rs : List Region) (t : Transfer) (ts : List Transfer) → is_strong_call t ≡ true → AreHeldPages page m rs ts → AreHeldPages page m rs (ts ++ t ∷ [])

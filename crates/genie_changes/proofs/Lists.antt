@@ -23,6 +23,10 @@ module _ {X : Type 0} (q : X → Bool) (t : X) where
   passes_found (y ∷ ys) x (inl is) p e = let here : q y ≡ true = ap q is ∙ p in let never : Some y ≡ None = sym (ap (λ b. cond b (Some y) (find q ys)) here) ∙ e in absurd (cc)
   passes_found (y ∷ ys) x (inr h) p e = elim (q y) as (λ b. cond b (Some y) (find q ys) ≡ None → ⊥) [ true ↦ λ g. absurd (cc) | false ↦ λ g. passes_found ys x h p g ] e
 
+pub append_none : {X : Type 0} (xs : List X) → xs ++ [] ≡ xs
+append_none [] = refl
+append_none (x ∷ xs) = ap (λ l. x ∷ l) (append_none xs)
+
 pub map_more : {X Y : Type 0} (f : X → Y) (xs : List X) (t : X) → map f (xs ++ t ∷ []) ≡ map f xs ++ f t ∷ []
 map_more f [] t = refl
 map_more f (x ∷ xs) t = ap (λ l. f x ∷ l) (map_more f xs t)

@@ -20,7 +20,7 @@ use Rattle.genie_kernel.specs.Lemmas.Beside.{find_beside, filter_beside, sum_bes
 use Rattle.genie_kernel.specs.Lemmas.Removing.{posted_left}
 use Rattle.genie_kernel.specs.Lemmas.Staying.{at_least}
 use Rattle.genie_changes.specs.Pending.{GivesUpBuffer}
-use Rattle.genie_changes.proofs.Lists.{all_less, all_more, found_same, if_some_map, map_more}
+use Rattle.genie_changes.proofs.Lists.{append_none, all_less, all_more, found_same, if_some_map, map_more}
 
 abbrev pub IsUnstored : Transfer → Type 0
 IsUnstored t = is_posted_call t ≡ true → t.stored ≡ 0
@@ -30,10 +30,6 @@ posted_less n posted ts order h = record { listed = ap (demux.without n) h.liste
 
 pub posted_beside_less : (p : Transfer → Bool) (t : Transfer) (posted : List Input) (ts : List Transfer) → find p ts ≡ Some t → is_posted t.phase ≡ false → ArePosted posted ts → ArePosted posted (without p ts)
 posted_beside_less p t posted ts found other h = record { listed = h.listed ∙ sym (ap (map posted_as) (filter_beside p t is_posted_call ts found other)); unstored = all_less IsUnstored p ts h.unstored }
-
-append_none : {X : Type 0} (xs : List X) → xs ++ [] ≡ xs
-append_none [] = refl
-append_none (x ∷ xs) = ap (λ l. x ∷ l) (append_none xs)
 
 filter_more : (t : Transfer) (ts : List Transfer) (b : Bool) → is_posted_call t ≡ b → filter is_posted_call (ts ++ t ∷ []) ≡ filter is_posted_call ts ++ cond b (t ∷ []) []
 filter_more t ts b e = filter-append is_posted_call ts (t ∷ []) ∙ ap (λ c. filter is_posted_call ts ++ cond c (t ∷ []) []) e

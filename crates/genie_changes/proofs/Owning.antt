@@ -12,6 +12,7 @@ use Rattle.genie_kernel.specs.Calls.{has_number, number_of}
 use Rattle.genie_kernel.specs.Loans.{has_frame}
 use Rattle.genie_kernel.specs.Owners.{AreOwned, holders}
 use Rattle.genie_kernel.specs.Lemmas.Beside.{filter_beside}
+use Rattle.genie_changes.proofs.Lists.{append_none}
 use Rattle.genie_changes.specs.Owned.{LetsGo, TakesFor, FreeAreUnlent}
 
 -- a transfer with a loan on the frame is one of its holders
@@ -53,10 +54,6 @@ owned_less n t ts pools old new e go h = record {
 -- one transfer more holds the frames on which it has a loan
 holders_more : (f : ℕ) (t : Transfer) (ts : List Transfer) (b : Bool) → has_frame f t ≡ b → holders (ts ++ t ∷ []) f ≡ map number_of (filter (has_frame f) ts ++ cond b (t ∷ []) [])
 holders_more f t ts b e = ap (map number_of) (filter-append (has_frame f) ts (t ∷ []) ∙ ap (λ c. filter (has_frame f) ts ++ cond c (t ∷ []) []) e)
-
-append_none : {X : Type 0} (xs : List X) → xs ++ [] ≡ xs
-append_none [] = refl
-append_none (x ∷ xs) = ap (λ l. x ∷ l) (append_none xs)
 
 map_append : (ts us : List Transfer) → map number_of (ts ++ us) ≡ map number_of ts ++ map number_of us
 map_append [] us = refl

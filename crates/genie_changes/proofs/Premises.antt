@@ -1,6 +1,6 @@
 -- What the invariant gives.
 use Rattle.std.proofs.Common.{◌≡◌, ℕ, ◌<◌, zero, suc, Bool, true, false, not, cond, List, [], ◌∷◌, refl, sym, ap, subst, arith, rules, ◌∙◌, ⊎_elim, inl, inr, length, get_or}
-use Rattle.std.specs.Prelude.{Option, Some, None, unwrap_or, ◌&&◌, if◌then◌else◌}
+use Rattle.std.specs.Prelude.{Option, Some, None, unwrap_or, if◌then◌else◌}
 use Rattle.genie_base.specs.Transfers.{class_of, is_strong}
 use Rattle.genie_base.specs.declared.semantics.Class.{Class}
 use Rattle.genie_base.specs.declared.semantics.Class.TheVariants.{Copy, Share, Move, WeakMove}
@@ -76,10 +76,6 @@ in_range page t (Inward p) h = record { pages = h.pages; begins = h.begins; leng
 pub weak_range : (page : ℕ) (owners : List Owner) (early : Bool) (t : Transfer) (d : Direction) → is_strong_call t ≡ false → Lends page owners early t d → LendsFrom page (begins_at t) t t.loans
 weak_range page owners early t direction.Outward weak h = out_range page t t.loans h
 weak_range page owners early t direction.Inward weak h = in_range page t t.loans (subst (LendsInput page owners early t) weak h)
-
-and_first : (a b : Bool) → (a && b) ≡ true → a ≡ true
-and_first true b e = refl
-and_first false b e = absurd (cc)
 
 pub weak_has : (t : Transfer) (ts : List Transfer) → is_strong_call t ≡ false → Has t ts → Has t (weak_transfers ts)
 weak_has t [] weak h = absurd h
