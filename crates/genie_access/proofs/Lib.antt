@@ -1,0 +1,2 @@
+mod Outside
+mod Alike
