@@ -6,8 +6,6 @@ pub mod Gained
 pub mod Removed
 pub mod Ended
 pub mod Begun
-pub mod Counting
-pub mod Owning
 pub mod Beside
 pub mod Fewer
 pub mod Holding

@@ -1,8 +1,6 @@
 pub mod Places
 pub mod Orphans
 pub mod States
-pub mod Lent
-pub mod Owned
 pub mod Pages
 pub mod Pending
 pub mod Working

@@ -1,15 +1,14 @@
 -- Laws of the pages that devices hold.
-use Rattle.std.specs.Prelude.{◌≡◌, ◌≢◌, ℕ, ◌<◌, Bool, true, false, List, [], ◌∷◌, ◌++◌, length, find, All, None, Some, slice_index_or}
+use Rattle.std.specs.Prelude.{◌≡◌, ◌≢◌, ℕ, ◌<◌, Bool, true, List, [], ◌∷◌, ◌++◌, length, find, All, None, Some, slice_index_or}
 use Rattle.genie_frame.specs.declared.frame.Owner.TheVariants.{Nobody}
 use Rattle.genie_frame.specs.FrameTable.{owner_at}
 use Rattle.genie_object.specs.declared.memory.Memory.{Memory}
 use Rattle.genie_object.specs.Memory.{entry_frame}
 use Rattle.genie_region.specs.declared.region.Region.{Region}
-use Rattle.genie_model.specs.Lemmas.Lists.{Has}
 use Rattle.genie_model.specs.Tables.{without}
 use Rattle.genie_kernel.specs.declared.transfer.Transfer.{Transfer}
 use Rattle.genie_kernel.specs.Calls.{is_strong_call}
-use Rattle.genie_kernel.specs.Held.{AreHeldPages, IsHeldIn, page_of_loan, weak_transfers}
+use Rattle.genie_kernel.specs.Held.{AreHeldPages, weak_transfers}
 use Rattle.genie_kernel.specs.Loans.{frames_of}
 use Rattle.genie_kernel.specs.Regions.{has_id}
 
@@ -33,19 +32,6 @@ HeldLess = (page : ℕ) (m : Memory) (regions : List Region) (p : Transfer → B
 -- with one strong transfer more
 abbrev pub HeldBesideStrong : Type 0
 HeldBesideStrong = (page : ℕ) (m : Memory) (regions : List Region) (t : Transfer) (ts : List Transfer) → is_strong_call t ≡ true → AreHeldPages page m regions ts → AreHeldPages page m regions (ts ++ t ∷ [])
-
--- the loans of a weak transfer are on different frames, which its pages are in; where an earlier weak transfer has one of
--- these pages or frames, it has both
-pub record HoldsBeside (page : ℕ) (m : Memory) (regions : List Region) (t : Transfer) (earlier : List Transfer) : Type 0 where
-  pub weak : is_strong_call t ≡ false
-  pub held : (j : ℕ) → j < length (frames_of t.loans) → IsHeldIn m regions (page_of_loan page t j) (slice_index_or (frames_of t.loans) j 0)
-  pub apart : (i j : ℕ) → i < length (frames_of t.loans) → j < length (frames_of t.loans) → slice_index_or (frames_of t.loans) i 0 ≡ slice_index_or (frames_of t.loans) j 0 → i ≡ j
-  pub same_page : (u : Transfer) (i j : ℕ) → Has u earlier → i < length (frames_of u.loans) → j < length (frames_of t.loans) → slice_index_or (frames_of u.loans) i 0 ≡ slice_index_or (frames_of t.loans) j 0 → page_of_loan page u i ≡ page_of_loan page t j
-  pub same_frame : (u : Transfer) (i j : ℕ) → Has u earlier → i < length (frames_of u.loans) → j < length (frames_of t.loans) → page_of_loan page u i ≡ page_of_loan page t j → slice_index_or (frames_of u.loans) i 0 ≡ slice_index_or (frames_of t.loans) j 0
-
--- with one weak transfer more
-abbrev pub HeldMore : Type 0
-HeldMore = (page : ℕ) (m : Memory) (regions : List Region) (t : Transfer) (ts : List Transfer) → HoldsBeside page m regions t (weak_transfers ts) → AreHeldPages page m regions ts → AreHeldPages page m regions (ts ++ t ∷ [])
 
 -- region r goes, and no other one; in frame f a page of it is left to nobody, a page of another object stays, and nobody's
 -- frame stays so
