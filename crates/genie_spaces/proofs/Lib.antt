@@ -1,2 +1,5 @@
 mod Keeping
+mod Numbering
 mod Spawning
+mod Forbidding
+mod Protecting

@@ -1,2 +1,4 @@
 pub mod Serving
 pub mod Tables
+pub mod Permissions
+pub mod RegionLaws

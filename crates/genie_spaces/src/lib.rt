@@ -1,4 +1,6 @@
 //! The kernel's events on address spaces.
 #![tactic(auto)]
 
+mod laws;
+pub mod protect;
 pub mod spawn;
