@@ -111,6 +111,7 @@ module _ (k : Kernel) (seen : Seen) (r q x y : ℕ → List ℕ) where
     calls = o.calls;
     queues = o.queues;
     moving = λ i t l is. ap receives_for (new_entry (get_or old.transfers i t).device) ∙ receives_same (get_or old.transfers i t).device (entry k.devices (get_or old.transfers i t).device) ∙ sym (ap receives_for (old_entry (get_or old.transfers i t).device)) ∙ o.moving i t l is;
+    received = λ i t l is. o.received i t l (ap receives_for (old_entry (get_or old.transfers i t).device) ∙ sym (receives_same (get_or old.transfers i t).device (entry k.devices (get_or old.transfers i t).device)) ∙ sym (ap receives_for (new_entry (get_or old.transfers i t).device)) ∙ is);
     datagrams = λ d. at_each (λ j v. IfSome v (λ (w : flat.Device). IfSome w.present (SuitsDevice k.config.page w))) (λ j v. IfSome v (λ (w : flat.Device). IfSome w.present (SuitsDevice k.config.page w))) datagram_same d (o.datagrams d);
     depths = λ d. at_each (λ j v. KeepsDepth (arrived old j) v) (λ j v. KeepsDepth (arrived new j) v) depth_same d (o.depths d);
   }
