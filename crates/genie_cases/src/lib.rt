@@ -3,6 +3,8 @@
 
 pub mod bench;
 #[cfg(test)]
+mod ends;
+#[cfg(test)]
 mod hiding;
 #[cfg(test)]
 mod outputs;
