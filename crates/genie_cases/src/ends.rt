@@ -41,8 +41,8 @@ const AFTER: [[u8; 16]; 3] = [
     ],
 ];
 
-// Lends frames for 40 bytes that lie as those from place 5 on do.
-fn lend_buffer<S: Store>(bench: &mut Bench<S>) -> Result<InPlan, Trouble>
+/// Lends frames for 40 bytes that lie as those from place 5 on do.
+pub fn lend_buffer<S: Store>(bench: &mut Bench<S>) -> Result<InPlan, Trouble>
     requires well { IsWell bench.old.memory (S.view bench.old.store) bench.old.object.0 bench.old.entries bench.old.pages bench.old.most }
     ensures well { OnOk result (IsWell bench.new.memory (S.view bench.new.store) bench.new.object.0 bench.new.entries bench.new.pages bench.new.most) }
     ensures buffers { IfOk result (λ plan. AreBuffers bench.new.memory.frames (input_frames plan.loans.items)) }

@@ -7,6 +7,8 @@ mod ends;
 #[cfg(test)]
 mod hiding;
 #[cfg(test)]
+mod kinds;
+#[cfg(test)]
 mod outputs;
 #[cfg(test)]
 mod paging;
