@@ -1,7 +1,7 @@
 -- A memory in a page of which bytes were written.
 use Rattle.std.proofs.Common.{◌≡◌, ℕ, ◌<◌, ◌≤◌, ◌+◌, Bool, true, false, List, length, get_or, ap, sym, arith, ◌∙◌}
 use Rattle.std.specs.Prelude.{count_by}
-use Rattle.genie_frame.specs.FrameTable.{no_counts}
+use Rattle.genie_frame.specs.FrameTable.{FrameTable, no_counts}
 use Rattle.genie_frame.specs.Frames.{stored, more_written}
 use Rattle.genie_store.specs.StoreView.{StoreView}
 use Rattle.genie_object.specs.declared.memory.Memory.{Memory}
@@ -11,6 +11,7 @@ use Rattle.genie_object.specs.Pages.{page_at, is_there}
 use Rattle.genie_object.specs.Lemmas.Lookup.{in_range, page_known, slot_taken}
 use Rattle.genie_object.specs.Calls.{OnlyMoves}
 use Rattle.genie_object.specs.Lemmas.Showing.{keeps_sound}
+use Rattle.genie_input.specs.Buffers.{AreBuffers}
 use Rattle.genie_cases.specs.Benches.{IsWell, IsIdle}
 
 -- bytes were written to a frame
@@ -54,3 +55,9 @@ moved_idle old new v w spoken y x = record {
 
 pub slot_known : (m : Memory) (p s : ℕ) → IsSound m → 0 < (page_at m.pages.pages p).shares → (page_at m.pages.pages p).place ≡ Slot s → s < length m.slots
 slot_known m p s x h e = in_range m.slots s false (λ n. let bad : true ≡ false = sym (slot_taken m.pages.pages m.slots p s e (page_known m p h) x.slotted) ∙ n in cc)
+
+pub still_buffers : (t : FrameTable) (f off : ℕ) (bytes frames : List ℕ) → AreBuffers t frames → AreBuffers (more_written (stored t f off bytes) (length bytes)) frames
+still_buffers t f off bytes frames x = record {
+  each = λ k l. let b = x.each k l in record { there = b.there; own = b.own; lent = b.lent };
+  apart = x.apart;
+}

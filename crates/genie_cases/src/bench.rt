@@ -37,9 +37,10 @@ pub struct Bench<S> {
     pub store: S,
     pub object: ObjectId,
     pub entries: u32,
-    // At most so many pages are there, and there is room for so many.
-    pages: u32,
-    most: u32,
+    /// At most so many pages are there.
+    pub pages: u32,
+    /// There is room for so many pages.
+    pub most: u32,
 }
 
 /// An object of untouched pages in free frames, over a store that isn't sized yet.
@@ -75,8 +76,8 @@ pub fn blank<S: Store + Drop>(
     })
 }
 
-// Whether no meter is near its end.
-fn is_young(memory: &Memory) -> bool
+/// Whether no meter is near its end.
+pub fn is_young(memory: &Memory) -> bool
     ensures { result ≡ true → AreBelow (2 ^ 64 - 2 ^ 21) memory.now.frames.meters }
 {
     let most = 0x100_0000_0000;

@@ -3,7 +3,11 @@
 
 pub mod bench;
 #[cfg(test)]
+mod ends;
+#[cfg(test)]
 mod hiding;
+#[cfg(test)]
+mod kinds;
 #[cfg(test)]
 mod outputs;
 #[cfg(test)]
