@@ -1,2 +1,3 @@
 mod Outside
 mod Alike
+mod Pieces

@@ -1,4 +1,5 @@
-//! The kernel's events on memory alone: pages go to the store.
+//! The kernel's events on memory alone: pages go to the store, and a process reads its memory.
 #![tactic(auto)]
 
+pub mod bytes;
 pub mod paging;
