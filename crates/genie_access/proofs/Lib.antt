@@ -1,3 +1,4 @@
 mod Outside
 mod Alike
 mod Pieces
+mod Joined
