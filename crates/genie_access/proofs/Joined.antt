@@ -1,10 +1,12 @@
 -- The bytes of an object, page after page.
-use Rattle.std.proofs.Common.{◌≡◌, ℕ, ◌+◌, ◌-◌, ◌*◌, ◌/◌, ◌%◌, ◌<◌, ◌≤◌, ◌^◌, zero, suc, true, false, List, [], ◌++◌, refl, sym, ap, subst, arith, ◌∙◌, length, take, drop, length-drop}
+use Rattle.std.proofs.Common.{◌≡◌, ℕ, ◌+◌, ◌-◌, ◌*◌, ◌/◌, ◌%◌, ◌<◌, ◌≤◌, ◌^◌, zero, suc, true, false, List, [], ◌++◌, refl, sym, ap, subst, arith, ◌∙◌, length, take, drop, length-drop, inl, inr}
 use Rattle.std.specs.Prelude.{Option, Some, None, IfSome, flat_map, ◌==◌, ◌&&◌}
 use Rattle.std.specs.List.{range_with_len}
 use Rattle.std.specs.Option.{option_map}
 use Rattle.std.proofs.Math.Seq.{drop-append-add}
 use Rattle.std.proofs.lemmas.Nat.{mod_below}
+use Rattle.std.proofs.lemmas.Bool.Decides.{eqb_tells}
+use Rattle.std.proofs.Math.Bool.{and-false}
 use Rattle.std.proofs.lemmas.List.{drop-append-le, take-append-le, length-replicate, append_assoc}
 use Rattle.genie_base.specs.Bytes.{part}
 use Rattle.genie_store.specs.StoreView.{StoreView}
@@ -158,3 +160,10 @@ gets_one (Slot s) = omega arith
 -- the meters still have room for another page
 pub meters_left : (b g n : ℕ) (old new : Meters) → AreBelow (2 ^ 63 + 2 ^ 20) old → Spends (b + n) g 0 1 old new → b ≤ 4096 → n ≤ 4096 → g ≤ 1 → AreBelow (2 ^ 64 - 2 ^ 20) new
 meters_left b g n old new below s lb ln lg = below_more (2 ^ 63 + 2 ^ 20 + (b + n) + g + 0 + 1) (2 ^ 64 - 2 ^ 20) new (omega (arith, lb, ln, lg)) (below_spent (2 ^ 63 + 2 ^ 20) (b + n) g 0 1 old new below s)
+
+-- a call on one entry that gives it no leave to be written gives none to any of its object
+pub narrow_one : (o q : ℕ) (a b : Memory) (v w : StoreView) → OnlyMoves (is_entry o q) a b v w → ((entry_at b.objects o q).writable ≡ true → (entry_at a.objects o q).writable ≡ true) → (i : ℕ) → (entry_at b.objects o i).writable ≡ true → (entry_at a.objects o i).writable ≡ true
+narrow_one o q a b v w x here i = elim (eqb_tells i q) [
+  | inl e ↦ subst (λ z. (entry_at b.objects o z).writable ≡ true → (entry_at a.objects o z).writable ≡ true) (sym e.1) here
+  | inr e ↦ (x.touches.entries o i (ap (λ z. (o == o) && z) e.0 ∙ and-false (o == o))).writable
+]

@@ -2,3 +2,4 @@ mod Outside
 mod Alike
 mod Pieces
 mod Joined
+mod Led

@@ -1,12 +1,12 @@
 //! Bytes of pages are read into a buffer.
-ghost use Rattle.std.specs.Prelude.{◌≡◌, ◌+◌, ◌-◌, ◌<◌, ◌≤◌, ◌^◌, ◌++◌, length, count_by, OnOk};
+ghost use Rattle.std.specs.Prelude.{◌≡◌, ℕ, true, ◌+◌, ◌-◌, ◌<◌, ◌≤◌, ◌^◌, ◌++◌, length, count_by, OnOk};
 ghost use Rattle.genie_base.specs.Bytes.{part};
 ghost use Rattle.genie_base.specs.Causes.{HasCause};
 ghost use Rattle.genie_frame.specs.FrameTable.{bytes_at, is_free};
 ghost use Rattle.genie_frame.specs.Frames.{more_read};
 ghost use Rattle.genie_object.specs.Calls.{OnlyMoves, TakesAtMost};
 ghost use Rattle.genie_object.specs.Costs.{AreBelow, Spends, read_work, gets_for};
-ghost use Rattle.genie_object.specs.Objects.{object_at};
+ghost use Rattle.genie_object.specs.Objects.{object_at, entry_at};
 ghost use Rattle.genie_object.specs.Pages.{is_there};
 ghost use Rattle.genie_object.specs.Sound.{IsSound, IsSized};
 ghost use Rattle.genie_object.specs.Touching.{is_entry};
@@ -81,6 +81,7 @@ pub fn read_page<S: Store>(
     ensures cause { HasCause (S.view store.old).faults (S.view store.new).faults result }
     ensures bytes { OnOk result (ReadsEntry memory.old (S.view store.old) at.object.0 at.index off n into.old into.new) }
     ensures size { OnOk result (length into.new ≡ length into.old + n) }
+    ensures narrow { (entry_at memory.new.objects at.object.0 at.index).writable ≡ true → (entry_at memory.old.objects at.object.0 at.index).writable ≡ true }
 {
     match resolve_read(memory, store, at) {
         Ok(f) => {

@@ -1,10 +1,10 @@
 //! Bytes of a region's pages are read into a buffer.
-ghost use Rattle.std.specs.Prelude.{◌≡◌, ◌+◌, ◌*◌, ◌<◌, ◌≤◌, ◌^◌, length, count_by, OnOk};
+ghost use Rattle.std.specs.Prelude.{◌≡◌, ℕ, true, ◌+◌, ◌*◌, ◌<◌, ◌≤◌, ◌^◌, length, count_by, OnOk};
 ghost use Rattle.genie_base.specs.Causes.{HasCause};
 ghost use Rattle.genie_frame.specs.FrameTable.{is_free};
 ghost use Rattle.genie_object.specs.Calls.{OnlyMoves};
 ghost use Rattle.genie_object.specs.Costs.{AreBelow};
-ghost use Rattle.genie_object.specs.Objects.{object_at};
+ghost use Rattle.genie_object.specs.Objects.{object_at, entry_at};
 ghost use Rattle.genie_object.specs.Pages.{is_there};
 ghost use Rattle.genie_object.specs.Sound.{IsSound, IsSized};
 ghost use Rattle.genie_access.specs.Reading.{ReadsObject, is_of_object};
@@ -35,6 +35,7 @@ pub fn read_range<S: Store>(
     requires buffer { length into.old + n ≤ 4096 }
     ensures moves { OnlyMoves (is_of_object object.0) memory.old memory.new (S.view store.old) (S.view store.new) }
     ensures cause { HasCause (S.view store.old).faults (S.view store.new).faults result }
+    ensures narrow { (i : ℕ) → (entry_at memory.new.objects object.0 i).writable ≡ true → (entry_at memory.old.objects object.0 i).writable ≡ true }
     ensures bytes { OnOk result (ReadsObject memory.old (S.view store.old) object.0 off n into.old into.new) }
 {
     let page = memory.frames.page();
