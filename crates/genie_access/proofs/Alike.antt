@@ -1,16 +1,14 @@
 -- The kernel after calls of the memory that change nothing of what is seen.
-use Rattle.std.proofs.Common.{◌≡◌, ℕ, ◌-◌, ◌^◌, refl, sym, ap, subst, arith, ◌∙◌}
+use Rattle.std.proofs.Common.{◌≡◌, ℕ, refl, sym, ap, subst, ◌∙◌}
 use Rattle.std.specs.Prelude.{Option, Some, None, Result, Ok, Err}
 use Rattle.std.specs.Option.{option_map}
 use Rattle.genie_base.specs.Causes.{HasCause}
 use Rattle.genie_base.specs.Events.{mark_of}
 use Rattle.genie_base.specs.declared.event.Event.TheVariants.{Pageout}
 use Rattle.genie_base.specs.declared.reply.Reply.{Reply}
-use Rattle.genie_frame.specs.declared.frame.Meters.{Meters}
 use Rattle.genie_host.specs.Host.{HostView}
 use Rattle.genie_store.specs.StoreView.{StoreView}
 use Rattle.genie_object.specs.declared.memory.Memory.{Memory}
-use Rattle.genie_object.specs.Costs.{AreBelow}
 use Rattle.genie_object.specs.Memory.{seen_with}
 use Rattle.genie_object.specs.Sound.{IsSized}
 use Rattle.genie_hiding.specs.Hidden.{objects_of}
@@ -87,6 +85,3 @@ put_told tidy k new host v w n done r is g only s = subst (StepsTold (view k hos
 pub cause_told : (before now : ℕ) {T E : Type 0} (done : Result T E) → HasCause before now done → StoreCause (mark_of (reply_to done)) before now
 cause_told before now (Ok x) c = c.kept
 cause_told before now (Err e) c = c.failed
-
-pub below_room : (m : Meters) → AreBelow (2 ^ 63) m → AreBelow (2 ^ 64 - 2 ^ 20) m
-below_room m b = record { read = omega (arith, b.read); written = omega (arith, b.written); copied = omega (arith, b.copied); zeroed = omega (arith, b.zeroed); puts = omega (arith, b.puts); gets = omega (arith, b.gets); taken = omega (arith, b.taken) }

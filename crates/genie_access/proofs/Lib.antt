@@ -1,2 +1,5 @@
 mod Outside
 mod Alike
+mod Pieces
+mod Joined
+mod Led

@@ -1,6 +1,7 @@
 -- Regions of processes are outside hidden ones.
 use Rattle.std.proofs.Common.{◌≡◌, ℕ, ◌+◌, ◌≤◌, Bool, true, false, cond, List, [], ◌∷◌, ◌++◌, refl, sym, ap, ap₂, arith, ◌∙◌, map, get_or, inl, inr, ⊎_elim}
 use Rattle.std.specs.Prelude.{Option, Some, None, count_by, nat_lt, flat_map, ◌==◌, if◌then◌else◌}
+use Rattle.std.specs.List.{range_with_len}
 use Rattle.std.specs.Option.{option_map}
 use Rattle.std.proofs.lemmas.Bool.{cases_Bool, eq-eqb}
 use Rattle.std.proofs.lemmas.List.Sums.{sum_by-cons}
@@ -16,7 +17,7 @@ use Rattle.genie_model.specs.Lemmas.Lists.{Has, has_at, has_left, has_right}
 use Rattle.genie_kernel.specs.declared.kernel.Kernel.{Kernel}
 use Rattle.genie_kernel.specs.Backed.{AreGuarded, hidden_region, has_object}
 use Rattle.genie_kernel.specs.Good.{IsGood}
-use Rattle.genie_kernel.specs.Regions.{region_view, process_view, processes_view, regions_of, owned_regions}
+use Rattle.genie_kernel.specs.Regions.{object_bytes, region_view, process_view, processes_view, regions_of, owned_regions}
 use Rattle.genie_kernel.specs.View.{Bytes, state_of, bytes_with}
 
 count_has : (o : ℕ) (r : Region) (rs : List Region) → Has r rs → r.object.0 ≡ o → 1 ≤ count_by (has_object o) rs
@@ -96,3 +97,13 @@ told_outside k g (Some s) (Some rests) (Some sents) = ap Some (state_outside k (
 -- two memories that show the same outside hidden regions
 pub told_same : (k : Kernel) → IsGood k → (s t : Option Seen) (rests sents : Option (ℕ → List ℕ)) → option_map (outside (objects_of k.hidden)) s ≡ option_map (outside (objects_of k.hidden)) t → option_map (state_of k) (bytes_with s rests sents) ≡ option_map (state_of k) (bytes_with t rests sents)
 told_same k g s t rests sents same = sym (told_outside k g s rests sents) ∙ ap (λ x. option_map (state_of k) (bytes_with x rests sents)) same ∙ told_outside k g t rests sents
+
+-- an object of a process's region shows the same then
+pub told_object : (k : Kernel) (r : Region) → IsGood k → Has r (owned_regions k.spaces.processes) → (s t : Seen) → outside (objects_of k.hidden) s ≡ outside (objects_of k.hidden) t → (i : ℕ) → s.entry_bytes r.object.0 i ≡ t.entry_bytes r.object.0 i
+told_object k r g h s t same i =
+    let shown : (if is_among r.object.0 (objects_of k.hidden) then [] else s.entry_bytes r.object.0 i) ≡ (if is_among r.object.0 (objects_of k.hidden) then [] else t.entry_bytes r.object.0 i) = ap (λ (x : Seen). x.entry_bytes r.object.0 i) same in
+    let no = unhidden k g r h in
+    sym (ap (λ b. cond b [] (s.entry_bytes r.object.0 i)) no) ∙ shown ∙ ap (λ b. cond b [] (t.entry_bytes r.object.0 i)) no
+
+pub object_alike : (s t : ℕ → ℕ → List ℕ) (o n : ℕ) → ((i : ℕ) → s o i ≡ t o i) → object_bytes s o n ≡ object_bytes t o n
+object_alike s t o n e = bytes_alike s t o (range_with_len 0 n) e

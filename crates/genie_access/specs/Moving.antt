@@ -1,9 +1,11 @@
 -- What an event on memory leaves, where nothing changes of what processes and devices see.
-use Rattle.std.specs.Prelude.{◌≡◌, ℕ, ◌+◌, min, Result, Ok, Err}
+use Rattle.std.specs.Prelude.{◌≡◌, ℕ, ◌+◌, ◌≤◌, min, count_by, Result, Ok, Err}
 use Rattle.genie_base.specs.declared.reply.Reply.{Reply}
 use Rattle.genie_base.specs.declared.reply.Reply.TheVariants as reply
 use Rattle.genie_store.specs.StoreView.{StoreView}
 use Rattle.genie_object.specs.declared.memory.Memory.{Memory}
+use Rattle.genie_frame.specs.FrameTable.{is_free}
+use Rattle.genie_object.specs.Pages.{is_there}
 use Rattle.genie_object.specs.Sound.{IsSound, IsSized, FitsHidden}
 use Rattle.genie_object.specs.Touching.{KeepsLoans}
 use Rattle.genie_hiding.specs.Hidden.{objects_of, seen_outside}
@@ -33,3 +35,8 @@ reply_to (Err e) = reply.StoreFault
 -- unless the store failed, so many pages went to it: those asked for, or all that may go
 abbrev pub PutsPages : ℕ → ℕ → Memory → Memory → Reply → Type 0
 PutsPages n may old new r = r ≡ reply.Okay → new.frames.meters.puts ≡ old.frames.meters.puts + min n may
+
+-- two frames are free, and there may be two pages more
+pub record HasTwo (m : Memory) : Type 0 where
+  pub free : 2 ≤ count_by is_free m.frames.owners
+  pub pages : count_by is_there m.pages.pages + 2 ≤ m.pages.most

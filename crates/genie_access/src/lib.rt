@@ -1,4 +1,7 @@
-//! The kernel's events on memory alone: pages go to the store.
+//! The kernel's events on memory alone: a process reads its memory, and pages go to the store.
 #![tactic(auto)]
 
+pub mod bytes;
 pub mod paging;
+pub mod ranges;
+pub mod reading;

@@ -40,6 +40,7 @@ pub fn resolve_read<S: Store>(
     ensures cause { HasCause (S.view store.old).faults (S.view store.new).faults result }
     ensures framed { IfOk result (λ f. entry_frame memory.new at.object.0 at.index ≡ Some f.0) }
     ensures readable { OnOk result ((entry_at memory.new.objects at.object.0 at.index).readable ≡ true) }
+    ensures narrow { (entry_at memory.new.objects at.object.0 at.index).writable ≡ true → (entry_at memory.old.objects at.object.0 at.index).writable ≡ true }
     ensures brings { IfOk result (λ f. BringsIn memory.old memory.new.frames at.object.0 at.index f.0) }
     ensures unchanged { OnErr result (memory.new ≡ metered memory.old memory.new.frames.meters) }
 {
@@ -62,6 +63,7 @@ fn read_entry<S: Store>(
     requires room { count_by is_there memory.old.pages.pages < memory.old.pages.most }
     requires meters { AreBelow (2 ^ 64 - 2 ^ 20) memory.old.frames.meters }
     ensures resolved { IfOk result (λ f. IsReadIn memory.old memory.new (S.view store.old) at.object.0 at.index f) }
+    ensures narrow { (entry_at memory.new.objects at.object.0 at.index).writable ≡ true → (entry_at memory.old.objects at.object.0 at.index).writable ≡ true }
     ensures unchanged { OnErr result (memory.new ≡ metered memory.old memory.new.frames.meters) }
     ensures read { IsRead (S.view store.old) (S.view store.new) result }
     ensures meters { Spends (read_work memory.old at.object.0 at.index) (gets_for memory.old at.object.0 at.index) 0 1 memory.old.frames.meters memory.new.frames.meters }
@@ -95,6 +97,7 @@ fn read_page<S: Store>(
     requires free { 0 < count_by is_free memory.old.frames.owners }
     requires meters { AreBelow (2 ^ 64 - 2 ^ 20) memory.old.frames.meters }
     ensures resolved { IfOk result (λ f. IsReadIn memory.old memory.new (S.view store.old) at.object.0 at.index f) }
+    ensures narrow { (entry_at memory.new.objects at.object.0 at.index).writable ≡ true → (entry_at memory.old.objects at.object.0 at.index).writable ≡ true }
     ensures unchanged { OnErr result (memory.new ≡ metered memory.old memory.new.frames.meters) }
     ensures read { IsRead (S.view store.old) (S.view store.new) result }
     ensures meters { Spends (read_work memory.old at.object.0 at.index) (gets_for memory.old at.object.0 at.index) 0 1 memory.old.frames.meters memory.new.frames.meters }

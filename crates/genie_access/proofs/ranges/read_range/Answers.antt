@@ -1,0 +1,32 @@
+use Rattle.std.proofs.Common.{arith, ◌/◌, ◌+◌}
+use Rattle.genie_object.specs.Lemmas.Works.{page_most}
+use Rattle.genie_access.proofs.Pieces.{most_work}
+use Rattle.genie_access.proofs.Joined.{narrow_one, range_one, range_two, moves_twice, meters_left, gets_one}
+use Rattle.genie_access.proofs.ranges.read_range.Goals as goal
+
+pub returns-then-first-n-clause-bytes : goal.returns-then-first-n-clause-bytes
+returns-then-first-n-clause-bytes g c = range_one c.args.memory.now (g.S.Store.view c.args.store.now) c.args.object.0 c.args.off c.args.n c.page-page.result c.min-first.result c.args.into.now c.read_page.new.into c.requires.sound c.requires.sized.count c.requires.sized.page (g.met.S.Store.paged c.args.store.now) c.page-page.ensures.size c.requires.some c.requires.most c.requires.inside (omega (arith, c.min-first.ensures)) (omega (arith, c.if-first-n.true)) c.in-Ok.ensures.bytes
+
+pub read_page-requires-2-clause-meters : goal.read_page-requires-2-clause-meters
+read_page-requires-2-clause-meters g c = meters_left _ _ c.min-first.result c.args.memory.now.frames.meters c.read_page.new.memory.frames.meters c.requires.meters c.in-Ok.ensures.meters (most_work _ c.args.memory.now.frames.page (page_most c.args.memory.now.frames.page c.requires.sound.shaped.size)) (omega (arith, c.requires.buffer, c.min-first.ensures)) (gets_one _)
+
+pub returns-in-Ok-read_page-clause-moves : goal.returns-in-Ok-read_page-clause-moves
+returns-in-Ok-read_page-clause-moves g c = moves_twice c.args.object.0 (c.args.off / c.page-page.result) (c.args.off / c.page-page.result + 1) c.args.memory.now c.read_page.new.memory _ (g.S.Store.view c.args.store.now) (g.S.Store.view c.read_page.new.store) _ c.in-Ok.ensures.moves c.in-Ok-read_page.ensures.moves
+
+pub returns-in-Err-read_page-clause-moves : goal.returns-in-Err-read_page-clause-moves
+returns-in-Err-read_page-clause-moves g c = moves_twice c.args.object.0 (c.args.off / c.page-page.result) (c.args.off / c.page-page.result + 1) c.args.memory.now c.read_page.new.memory _ (g.S.Store.view c.args.store.now) (g.S.Store.view c.read_page.new.store) _ c.in-Ok.ensures.moves c.in-Err-read_page.ensures.moves
+
+pub returns-in-Ok-read_page-clause-bytes : goal.returns-in-Ok-read_page-clause-bytes
+returns-in-Ok-read_page-clause-bytes g c = range_two c.args.memory.now c.read_page.new.memory (g.S.Store.view c.args.store.now) (g.S.Store.view c.read_page.new.store) c.args.object.0 c.args.off c.args.n c.page-page.result c.min-first.result c.args.into.now c.read_page.new.into c.read_page-2.new.into c.requires.sound c.requires.sized.count c.requires.sized.page (g.met.S.Store.paged c.args.store.now) c.page-page.ensures.size c.requires.some c.requires.most c.requires.inside (omega (arith, c.min-first.ensures, c.if-first-n.false)) (omega (arith, c.min-first.ensures, c.if-first-n.false)) c.in-Ok.ensures.moves.seen c.in-Ok.ensures.bytes c.in-Ok-read_page.ensures.bytes
+
+pub returns-in-Err-clause-narrow : goal.returns-in-Err-clause-narrow
+returns-in-Err-clause-narrow g c = narrow_one c.args.object.0 (c.args.off / c.page-page.result) c.args.memory.now c.read_page.new.memory (g.S.Store.view c.args.store.now) (g.S.Store.view c.read_page.new.store) c.in-Err.ensures.moves c.in-Err.ensures.narrow
+
+pub returns-then-first-n-clause-narrow : goal.returns-then-first-n-clause-narrow
+returns-then-first-n-clause-narrow g c = narrow_one c.args.object.0 (c.args.off / c.page-page.result) c.args.memory.now c.read_page.new.memory (g.S.Store.view c.args.store.now) (g.S.Store.view c.read_page.new.store) c.in-Ok.ensures.moves c.in-Ok.ensures.narrow
+
+pub returns-in-Ok-read_page-clause-narrow : goal.returns-in-Ok-read_page-clause-narrow
+returns-in-Ok-read_page-clause-narrow g c = λ i h. narrow_one c.args.object.0 (c.args.off / c.page-page.result) c.args.memory.now c.read_page.new.memory (g.S.Store.view c.args.store.now) (g.S.Store.view c.read_page.new.store) c.in-Ok.ensures.moves c.in-Ok.ensures.narrow i (narrow_one c.args.object.0 (c.args.off / c.page-page.result + 1) c.read_page.new.memory c.read_page-2.new.memory (g.S.Store.view c.read_page.new.store) (g.S.Store.view c.read_page-2.new.store) c.in-Ok-read_page.ensures.moves c.in-Ok-read_page.ensures.narrow i h)
+
+pub returns-in-Err-read_page-clause-narrow : goal.returns-in-Err-read_page-clause-narrow
+returns-in-Err-read_page-clause-narrow g c = λ i h. narrow_one c.args.object.0 (c.args.off / c.page-page.result) c.args.memory.now c.read_page.new.memory (g.S.Store.view c.args.store.now) (g.S.Store.view c.read_page.new.store) c.in-Ok.ensures.moves c.in-Ok.ensures.narrow i (narrow_one c.args.object.0 (c.args.off / c.page-page.result + 1) c.read_page.new.memory c.read_page-2.new.memory (g.S.Store.view c.read_page.new.store) (g.S.Store.view c.read_page-2.new.store) c.in-Err-read_page.ensures.moves c.in-Err-read_page.ensures.narrow i h)

@@ -1,0 +1,8 @@
+use Rattle.genie_access.proofs.Alike.{room_seen}
+use Rattle.genie_access.proofs.reading.make_two.Goals as goal
+
+pub returns-in-Ok-clause-seen : goal.returns-in-Ok-clause-seen
+returns-in-Ok-clause-seen g c = room_seen c.args.kernel.now c.make_room.new.memory (g.S.Store.view c.args.store.now) (g.S.Store.view c.make_room.new.store) c.requires.good c.requires.sized c.make_room.ensures.room
+
+pub returns-in-Err-clause-seen : goal.returns-in-Err-clause-seen
+returns-in-Err-clause-seen g c = room_seen c.args.kernel.now c.make_room.new.memory (g.S.Store.view c.args.store.now) (g.S.Store.view c.make_room.new.store) c.requires.good c.requires.sized c.make_room.ensures.room
