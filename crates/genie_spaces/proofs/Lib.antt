@@ -1,5 +1,6 @@
 mod Keeping
 mod Numbering
+mod Marking
 mod Spawning
 mod Forbidding
 mod Protecting

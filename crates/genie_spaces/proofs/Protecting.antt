@@ -181,8 +181,8 @@ module _ (laws : RegionLaws) (k : Kernel) (p g : ℕ) (w : Bool) (r : Region) (r
   }
 
 -- what the event's contract says
-pub protects : RegionLaws → (k new : Kernel) (p g : ℕ) (w : Bool) (r : Region) (os : List (List Entry)) → IsGood k → refuse (outline k) (Protect p g w) ≡ None → find (starts_at g) (spaces.regions_of p k.spaces) ≡ Some r → Guards r.object.0 w k.memory.objects os → new ≡ moded (with_objects k os) p r w → IsServed k (Protect p g w) new reply.Okay
-protects laws k new p g w r os good accepted e guards is =
+pub protects : RegionLaws → (k after : Kernel) (p g : ℕ) (w : Bool) (r : Region) (os : List (List Entry)) → IsGood k → refuse (outline k) (Protect p g w) ≡ None → find (starts_at g) (spaces.regions_of p k.spaces) ≡ Some r → Guards r.object.0 w k.memory.objects os → after ≡ moded (with_objects k os) p r w → IsServed k (Protect p g w) after reply.Okay
+protects laws k after p g w r os good accepted e guards is =
     let f = is_found k p g r e in
     let there : spaces.regions_of p k.spaces ≡ f.regions = ap (λ (o : Option (List Region)). unwrap_or o []) f.there in
     let same = is ∙ ap (λ (l : List Region). record (with_objects k os) { spaces = spaces.set_regions k.spaces p (with_region r.id (with_mode w) l) }) there in

@@ -1,4 +1,5 @@
 pub mod Serving
 pub mod Tables
 pub mod Permissions
+pub mod Marks
 pub mod RegionLaws

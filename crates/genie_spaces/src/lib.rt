@@ -2,5 +2,6 @@
 #![tactic(auto)]
 
 mod laws;
+mod number;
 pub mod protect;
 pub mod spawn;
