@@ -1,5 +1,5 @@
 -- A region more.
-use Rattle.std.proofs.Common.{◌≡◌, ◌≢◌, ℕ, ◌+◌, ◌*◌, ◌<◌, ◌≤◌, Bool, true, false, List, [], ◌∷◌, refl, sym, ap, subst, arith, ◌∙◌, length, length-set, get_or-set_other, set, replicate}
+use Rattle.std.proofs.Common.{◌≡◌, ℕ, ◌+◌, ◌*◌, ◌<◌, true, false, List, [], ◌∷◌, refl, sym, ap, subst, arith, ◌∙◌, length, length-set, get_or-set_other, replicate}
 use Rattle.std.specs.Prelude.{Option, Some, None, IsTrue, unwrap_or, count_by}
 use Rattle.std.specs.List.{list_any}
 use Rattle.genie_base.specs.Events.{is_whole, mark_of}

@@ -1,8 +1,7 @@
 -- The hidden regions of a process, dropped.
-use Rattle.std.proofs.Common.{◌≡◌, ◌≢◌, ℕ, ◌+◌, ◌-◌, ◌<◌, ◌≤◌, zero, suc, Bool, true, false, not, cond, List, [], ◌∷◌, ◌++◌, refl, sym, ap, ap₂, subst, arith, rules, ◌∙◌, ◌⊎◌, map, length, get_or, inl, inr, ⊎_elim, eq-eqb, filter, find}
-use Rattle.std.specs.Prelude.{Option, Some, None, All, IfSome, ◌==◌, ◌&&◌, ◌||◌, count_by, nat_lt, if◌then◌else◌, is_some, slice_index, nat_le}
+use Rattle.std.proofs.Common.{◌≡◌, ℕ, ◌+◌, ◌-◌, ◌<◌, ◌≤◌, suc, Bool, true, false, not, cond, List, [], ◌∷◌, ◌++◌, refl, sym, ap, ap₂, subst, arith, rules, ◌∙◌, map, length, get_or, inl, inr, ⊎_elim, eq-eqb, filter, find}
+use Rattle.std.specs.Prelude.{Option, Some, None, All, IfSome, ◌==◌, ◌&&◌, count_by, nat_lt, if◌then◌else◌, slice_index, nat_le}
 use Rattle.std.specs.List.{list_any}
-use Rattle.std.specs.Option.{option_map}
 use Rattle.std.proofs.lemmas.Bool.{cases_Bool, cond_both, and_parts}
 use Rattle.std.proofs.lemmas.List.Sums.{sum_by-cons, sum_by-append}
 use Rattle.genie_base.specs.declared.semantics.Direction.{Direction}
@@ -10,11 +9,10 @@ use Rattle.genie_base.specs.declared.semantics.Direction.TheVariants as directio
 use Rattle.genie_base.specs.Bytes.{part}
 use Rattle.genie_base.specs.Lemmas.Places.{num}
 use Rattle.genie_frame.specs.declared.frame.Counts.{Counts}
-use Rattle.genie_frame.specs.declared.frame.InLoan.{InLoan}
 use Rattle.genie_frame.specs.declared.frame.OutLoan.{OutLoan}
 use Rattle.genie_frame.specs.declared.frame.Owner.{Owner}
 use Rattle.genie_frame.specs.declared.frame.Owner.TheVariants.{Free, Page, System, Pool, Nobody}
-use Rattle.genie_frame.specs.FrameTable.{FrameTable, no_counts, owner_at, counts_at, bytes_at, is_held, is_lent, is_page}
+use Rattle.genie_frame.specs.FrameTable.{FrameTable, owner_at, counts_at, bytes_at, is_held, is_page}
 use Rattle.genie_hiding.specs.declared.hidden.Hidden.{Hidden}
 use Rattle.genie_hiding.specs.Discarding.{Discards, is_object_of, has_object as has_hidden_object}
 use Rattle.genie_hiding.specs.Hidden.{is_of, others, objects_of}
@@ -25,30 +23,30 @@ use Rattle.genie_object.specs.declared.pages.PageId.{PageId}
 use Rattle.genie_object.specs.declared.pages.Place.{Place}
 use Rattle.genie_object.specs.declared.pages.Place.TheVariants.{Zero}
 use Rattle.genie_object.specs.Costs.{place_of}
-use Rattle.genie_object.specs.Memory.{seen, is_kept, frame_in, frame_of, entry_frame}
+use Rattle.genie_object.specs.Memory.{is_kept, frame_in, frame_of, entry_frame}
 use Rattle.genie_object.specs.Objects.{object_at, entry_at, is_absent}
 use Rattle.genie_object.specs.Pages.{page_at}
 use Rattle.genie_object.specs.Sound.{FitsHidden}
 use Rattle.genie_object.specs.Touching.{KeepsLoans}
-use Rattle.genie_object.specs.Lemmas.Touching.{keeps_all, as_many}
+use Rattle.genie_object.specs.Lemmas.Touching.{as_many}
 use Rattle.genie_plan.specs.Loans.{Loan, is_kind, loan_times, output_kind, output_loan, output_loans}
 use Rattle.genie_plan.specs.Loans as kind
 use Rattle.genie_plan.specs.Plans.{output_frames, input_frames}
 use Rattle.genie_region.specs.declared.region.Region.{Region}
 use Rattle.genie_space.specs.Translations.{IsBacked}
-use Rattle.genie_model.specs.Lemmas.Lists.{Has, all_has, has_any, has_at, has_either, has_left, has_right, has_map, find_has, find_none}
+use Rattle.genie_model.specs.Lemmas.Lists.{Has, all_has, has_any, has_at, has_either, has_left, has_right, find_has, find_none}
 use Rattle.genie_model.specs.Pending.{is_just}
 use Rattle.genie_model.specs.Tables.{entry}
 use Rattle.genie_kernel.specs.declared.kernel.Kernel.{Kernel}
 use Rattle.genie_kernel.specs.declared.transfer.Loans.{Loans}
 use Rattle.genie_kernel.specs.declared.transfer.Loans.TheVariants.{Nothing, Outward, Inward}
 use Rattle.genie_kernel.specs.declared.transfer.Transfer.{Transfer}
-use Rattle.genie_kernel.specs.Backed.{AreBacked, AreGuarded, IsGuarded, all_regions, has_object, hidden_region}
+use Rattle.genie_kernel.specs.Backed.{AreBacked, AreGuarded, all_regions, has_object, hidden_region}
 use Rattle.genie_kernel.specs.Calls.{is_strong_call, is_named, names_weakly, region_number}
 use Rattle.genie_kernel.specs.Counted.{lent_of, loans_on, pool_on}
 use Rattle.genie_kernel.specs.Good.{IsGood}
 use Rattle.genie_kernel.specs.Held.{AreHeldPages, HoldsPages, IsInFrame, region_named, page_of_loan, weak_transfers}
-use Rattle.genie_kernel.specs.Loans.{bytes_in_frames, first_of, frames_of, loans_of, has_frame}
+use Rattle.genie_kernel.specs.Loans.{bytes_in_frames, first_of, frames_of, loans_of}
 use Rattle.genie_kernel.specs.Orphans.{covers, is_orphan, is_owned, byte_under, orphan_byte}
 use Rattle.genie_kernel.specs.Planned.{Lends, LendsOut, LendsInput, LendsStrongly, is_early_device}
 use Rattle.genie_kernel.specs.Regions.{has_id, owned_regions}

@@ -1,5 +1,5 @@
 -- What is known of a new region that isn't refused.
-use Rattle.std.proofs.Common.{◌≡◌, ◌≢◌, ℕ, ◌+◌, ◌-◌, ◌*◌, ◌<◌, ◌≤◌, ◌^◌, Bool, true, false, List, [], ◌∷◌, refl, sym, ap, ap₂, subst, arith, ◌∙◌, map, length, not}
+use Rattle.std.proofs.Common.{◌≡◌, ◌≢◌, ℕ, ◌-◌, ◌*◌, ◌<◌, ◌≤◌, ◌^◌, Bool, true, false, List, [], ◌∷◌, refl, sym, ap, subst, arith, ◌∙◌, map, length, not}
 use Rattle.std.specs.Prelude.{Option, Some, None, IsTrue, is_some, find, unwrap_or, count_by, ◌&&◌, ◌||◌}
 use Rattle.std.specs.List.{list_any, list_all, range_with_len}
 use Rattle.std.proofs.lemmas.Bool.{not-false}
@@ -15,21 +15,19 @@ use Rattle.genie_base.specs.declared.refusal.Refusal.TheVariants as cause
 use Rattle.genie_base.specs.declared.region.Area.{Area}
 use Rattle.genie_base.specs.declared.region.Area.TheVariants.{App, Sys}
 use Rattle.genie_base.specs.declared.region.RegionState.TheVariants.{Live}
-use Rattle.genie_base.specs.declared.reply.Reply.{Reply}
 use Rattle.genie_base.specs.declared.reply.Reply.TheVariants as reply
-use Rattle.genie_hiding.specs.Hidden.{is_of}
 use Rattle.genie_object.specs.Lemmas.Lookup.{in_range}
 use Rattle.genie_object.specs.Objects.{is_absent}
 use Rattle.genie_region.specs.declared.region.Region.{Region}
 use Rattle.genie_region.specs.Layouts.{extent, region_of}
 use Rattle.genie_space.specs.Spaces as spaces
 use Rattle.genie_model.specs.Lemmas.Causes.{none_holds}
-use Rattle.genie_model.specs.Lemmas.Lists.{Has, find_has, find_none, none_from, none_has}
+use Rattle.genie_model.specs.Lemmas.Lists.{find_has, find_none, none_from, none_has}
 use Rattle.genie_model.specs.Refusing.{refuse, causes}
 use Rattle.genie_model.specs.Regions.{extent_of, fresh, place_of, regions_at}
 use Rattle.genie_model.specs.Space as space
 use Rattle.genie_model.specs.Tables.{entry}
-use Rattle.genie_orderly.specs.Lemmas.AcceptedEvents.{IsNew, map_accepted, alloc_accepted}
+use Rattle.genie_orderly.specs.Lemmas.AcceptedEvents.{map_accepted, alloc_accepted}
 use Rattle.genie_kernel.specs.declared.kernel.Kernel.{Kernel}
 use Rattle.genie_kernel.specs.Good.{IsGood}
 use Rattle.genie_kernel.specs.Regions.{has_id, owned_regions, regions_of, region_view}

@@ -1,6 +1,6 @@
 -- Numbers that are marked, and the least one that isn't.
-use Rattle.std.proofs.Common.{◌≡◌, ◌≢◌, ℕ, ◌+◌, ◌<◌, ◌≤◌, zero, suc, Bool, true, false, not, cond, List, [], ◌∷◌, ◌++◌, refl, sym, ap, ap₂, subst, arith, rules, ◌∙◌, length, take, get_or, set, replicate, get_or-set_other, get_or-set_same, length-set, filter, inl, inr, ⊎_elim, eq-eqb}
-use Rattle.std.specs.Prelude.{Option, Some, None, ◌||◌, ◌&&◌, ◌==◌, slice_get}
+use Rattle.std.proofs.Common.{◌≡◌, ◌≢◌, ℕ, ◌+◌, ◌<◌, ◌≤◌, zero, suc, Bool, true, false, not, cond, List, [], ◌∷◌, refl, sym, ap, ap₂, subst, arith, rules, ◌∙◌, length, take, get_or, set, replicate, get_or-set_other, get_or-set_same, length-set, filter, ⊎_elim, eq-eqb}
+use Rattle.std.specs.Prelude.{Option, Some, ◌||◌, ◌&&◌, ◌==◌, slice_get}
 use Rattle.std.specs.List.{list_any, range_with_len}
 use Rattle.std.proofs.lemmas.Bool.{cases_eq}
 use Rattle.std.proofs.lemmas.List.{take_more, take_all}
@@ -10,7 +10,6 @@ use Rattle.genie_model.specs.Lemmas.Lists.{any_append}
 use Rattle.genie_model.specs.Regions.{is_used, least_unused, fresh}
 use Rattle.genie_model.specs.State.{State}
 use Rattle.genie_kernel.specs.declared.kernel.Kernel.{Kernel}
-use Rattle.genie_kernel.specs.declared.transfer.Transfer.{Transfer}
 use Rattle.genie_kernel.specs.Calls.{names_weakly}
 use Rattle.genie_kernel.specs.Orphans.{is_orphan, all_numbers}
 use Rattle.genie_kernel.specs.Regions.{has_id, owned_regions, regions_of}

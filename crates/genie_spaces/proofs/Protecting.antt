@@ -1,6 +1,6 @@
 -- A region read-only or read-write.
-use Rattle.std.proofs.Common.{◌≡◌, ◌≢◌, ℕ, ◌<◌, Bool, true, false, not, List, [], ◌∷◌, refl, sym, ap, ap₂, subst, arith, ◌∙◌, map, length, length-set, get_or, set, inl, eqb-true, eq-eqb}
-use Rattle.std.specs.Prelude.{Option, Some, None, All, find, is_some, unwrap_or, if◌then◌else◌, ◌==◌, ◌&&◌}
+use Rattle.std.proofs.Common.{◌≡◌, ◌≢◌, ℕ, ◌<◌, Bool, true, false, List, [], ◌∷◌, refl, sym, ap, ap₂, subst, arith, ◌∙◌, map, length, length-set, get_or, set, eqb-true, eq-eqb}
+use Rattle.std.specs.Prelude.{Option, Some, None, find, is_some, unwrap_or, if◌then◌else◌, ◌==◌}
 use Rattle.std.specs.List.{list_any}
 use Rattle.std.specs.Option.{option_map}
 use Rattle.std.proofs.lemmas.Bool.{not-false}
@@ -24,7 +24,6 @@ use Rattle.genie_model.specs.Tables.{entry}
 use Rattle.genie_kernel.specs.declared.kernel.Kernel.{Kernel}
 use Rattle.genie_kernel.specs.Backed.{AreGuarded, IsGuarded, all_regions, hidden_region}
 use Rattle.genie_kernel.specs.Good.{IsGood}
-use Rattle.genie_kernel.specs.Kept.{Kept}
 use Rattle.genie_kernel.specs.Regions.{has_id, owned_regions, region_view, regions_of, with_changed}
 use Rattle.genie_kernel.specs.Steps.{Steps, bytes_over}
 use Rattle.genie_kernel.specs.View.{Bytes, state_of, outline, no_bytes}

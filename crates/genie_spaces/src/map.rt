@@ -27,3 +27,24 @@ pub fn map(kernel: &mut Kernel, pid: u32, page: u32, pages: u32) -> Reply<'stati
     let _object = add_region(kernel, pid, id, Area::App, page, pages);
     Reply::Okay
 }
+
+/// Makes a region of zeros in the system area, at the lowest page from which on its pages are free, and answers its
+/// address. Where there is no such place, or no room, the event is refused.
+pub fn alloc(kernel: &mut Kernel, pid: u32, pages: u32) -> Reply<'static>
+    requires good { IsGood kernel.old }
+    requires accepted { refuse (outline kernel.old) (event.Alloc pid pages) ≡ None }
+    ensures { IsServed kernel.old (event.Alloc pid pages) kernel.new result }
+{
+    region_laws();
+    objects_suffice();
+    let id = RegionId(fresh_number(kernel));
+    let page = kernel.spaces.page().get();
+    match kernel.spaces.regions(pid).place(pages) {
+        Some(start) => {
+            make_room(kernel, pid);
+            let _object = add_region(kernel, pid, id, Area::Sys, start, pages);
+            Reply::At { addr: start * page }
+        }
+        None => unreachable!(),
+    }
+}

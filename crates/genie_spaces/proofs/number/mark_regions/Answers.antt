@@ -1,5 +1,4 @@
-use Rattle.std.proofs.Common.{◌≡◌, ℕ, subst, sym, arith}
-use Rattle.std.specs.Prelude.{◌==◌}
+use Rattle.std.proofs.Common.{subst, sym, arith}
 use Rattle.genie_region.specs.declared.region.Region.{Region}
 use Rattle.genie_kernel.specs.Regions.{has_id}
 use Rattle.genie_spaces.specs.Marks.{Marks}

@@ -1,4 +1,3 @@
-use Rattle.std.proofs.Common.{arith}
 use Rattle.std.specs.Prelude.{length}
 use Rattle.genie_space.specs.Spaces.{regions_of}
 use Rattle.genie_spaces.proofs.Discarding.{clears_nothing, discarded, room_made}
