@@ -1,14 +1,12 @@
 -- Write permission that is taken from the entries of an object.
-use Rattle.std.proofs.Common.{◌≡◌, ℕ, ◌+◌, ◌<◌, ◌≤◌, suc, Bool, true, false, List, [], ◌∷◌, refl, sym, ap, subst, arith, ◌∙◌, length, get_or, inl, inr, ⊎_elim}
-use Rattle.std.specs.Prelude.{Option, Some, None}
+use Rattle.std.proofs.Common.{◌≡◌, ℕ, ◌+◌, ◌<◌, ◌≤◌, Bool, true, false, List, refl, sym, ap, subst, arith, ◌∙◌, length, ⊎_elim}
 use Rattle.std.proofs.lemmas.Bool.{cases_eq, cases_lt}
 use Rattle.genie_base.specs.Lemmas.Places.{past_end, num}
 use Rattle.genie_object.specs.declared.memory.Memory.{Memory}
 use Rattle.genie_object.specs.declared.objects.Entry.{Entry}
-use Rattle.genie_object.specs.declared.pages.PageId.{PageId}
-use Rattle.genie_object.specs.Memory.{seen, page_bytes, frame_of, entry_frame}
-use Rattle.genie_object.specs.Objects.{entry_at, object_at, set_entry, names, no_entry}
-use Rattle.genie_object.specs.Sound.{IsSound, IsFramed, IsPrivate, times_named}
+use Rattle.genie_object.specs.Memory.{seen, page_bytes, frame_of}
+use Rattle.genie_object.specs.Objects.{entry_at, object_at, set_entry, no_entry}
+use Rattle.genie_object.specs.Sound.{IsSound, IsFramed, IsPrivate}
 use Rattle.genie_object.specs.Touching.{KeepsLoans, Touches, Narrows}
 use Rattle.genie_object.specs.Lemmas.Entries.{entry_same, entry_or, times_set, entries_size}
 use Rattle.genie_object.specs.Lemmas.Touching.{keeps_all}

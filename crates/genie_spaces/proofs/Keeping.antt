@@ -1,5 +1,5 @@
 -- What is kept where the bytes behind a state stay.
-use Rattle.std.proofs.Common.{◌≡◌, ℕ, List, refl}
+use Rattle.std.proofs.Common.{ℕ, List, refl}
 use Rattle.std.specs.Prelude.{Option, Some, None, IfSome}
 use Rattle.genie_input.specs.Pools.{PoolState}
 use Rattle.genie_object.specs.Lemmas.Touching.{keeps_all}

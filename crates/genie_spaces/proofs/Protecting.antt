@@ -1,6 +1,6 @@
 -- A region read-only or read-write.
-use Rattle.std.proofs.Common.{◌≡◌, ◌≢◌, ℕ, ◌<◌, Bool, true, false, not, List, [], ◌∷◌, refl, sym, ap, ap₂, subst, arith, ◌∙◌, map, length, length-set, get_or, set, inl, eqb-true, eq-eqb}
-use Rattle.std.specs.Prelude.{Option, Some, None, All, find, is_some, unwrap_or, if◌then◌else◌, ◌==◌, ◌&&◌}
+use Rattle.std.proofs.Common.{◌≡◌, ◌≢◌, ℕ, ◌<◌, Bool, true, false, List, [], ◌∷◌, refl, sym, ap, ap₂, subst, arith, ◌∙◌, map, length, length-set, get_or, set, eqb-true, eq-eqb}
+use Rattle.std.specs.Prelude.{Option, Some, None, find, is_some, unwrap_or, if◌then◌else◌, ◌==◌}
 use Rattle.std.specs.List.{list_any}
 use Rattle.std.specs.Option.{option_map}
 use Rattle.std.proofs.lemmas.Bool.{not-false}
@@ -24,7 +24,6 @@ use Rattle.genie_model.specs.Tables.{entry}
 use Rattle.genie_kernel.specs.declared.kernel.Kernel.{Kernel}
 use Rattle.genie_kernel.specs.Backed.{AreGuarded, IsGuarded, all_regions, hidden_region}
 use Rattle.genie_kernel.specs.Good.{IsGood}
-use Rattle.genie_kernel.specs.Kept.{Kept}
 use Rattle.genie_kernel.specs.Regions.{has_id, owned_regions, region_view, regions_of, with_changed}
 use Rattle.genie_kernel.specs.Steps.{Steps, bytes_over}
 use Rattle.genie_kernel.specs.View.{Bytes, state_of, outline, no_bytes}
@@ -181,8 +180,8 @@ module _ (laws : RegionLaws) (k : Kernel) (p g : ℕ) (w : Bool) (r : Region) (r
   }
 
 -- what the event's contract says
-pub protects : RegionLaws → (k new : Kernel) (p g : ℕ) (w : Bool) (r : Region) (os : List (List Entry)) → IsGood k → refuse (outline k) (Protect p g w) ≡ None → find (starts_at g) (spaces.regions_of p k.spaces) ≡ Some r → Guards r.object.0 w k.memory.objects os → new ≡ moded (with_objects k os) p r w → IsServed k (Protect p g w) new reply.Okay
-protects laws k new p g w r os good accepted e guards is =
+pub protects : RegionLaws → (k after : Kernel) (p g : ℕ) (w : Bool) (r : Region) (os : List (List Entry)) → IsGood k → refuse (outline k) (Protect p g w) ≡ None → find (starts_at g) (spaces.regions_of p k.spaces) ≡ Some r → Guards r.object.0 w k.memory.objects os → after ≡ moded (with_objects k os) p r w → IsServed k (Protect p g w) after reply.Okay
+protects laws k after p g w r os good accepted e guards is =
     let f = is_found k p g r e in
     let there : spaces.regions_of p k.spaces ≡ f.regions = ap (λ (o : Option (List Region)). unwrap_or o []) f.there in
     let same = is ∙ ap (λ (l : List Region). record (with_objects k os) { spaces = spaces.set_regions k.spaces p (with_region r.id (with_mode w) l) }) there in

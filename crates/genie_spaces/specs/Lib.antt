@@ -1,4 +1,6 @@
 pub mod Serving
 pub mod Tables
 pub mod Permissions
+pub mod Marks
+pub mod Clearing
 pub mod RegionLaws

@@ -2,5 +2,8 @@
 #![tactic(auto)]
 
 mod laws;
+pub mod map;
+mod number;
 pub mod protect;
+mod room;
 pub mod spawn;
