@@ -50,9 +50,9 @@ fn write_from<S: Store>(
     }
 }
 
-/// Stores bytes in a process's memory from address `addr` on. A page that is shared, or that a device sends as it was, is
-/// left to them: the process gets a copy of its own. Where the store fails, no byte is stored, and what processes and
-/// devices see is as before.
+/// Stores bytes in a process's memory from address `addr` on, at most a page's length of them. Pages that are in no frame
+/// come into one. Of a page that others share, or that a device sends as it was lent, the process gets a copy of its own.
+/// Where the store fails, no byte is stored, and what processes and devices see is as before.
 pub fn write<S: Store>(
     kernel: &mut Kernel,
     store: &mut S,
