@@ -74,7 +74,7 @@ place_size m v slots p (Slot r) s count page h e =
     let known : r < length m.slots = in_range m.slots r false (λ n. let bad : false ≡ true = sym n ∙ taken in cc) in
     h r (omega (arith, known, count)) ∙ page
 
-bytes_size : (m : Memory) (v : StoreView) (slots : ℕ → List ℕ) (p : Option PageId) → IsSound m → v.count ≡ length m.slots → v.page ≡ m.frames.page → HasPages v slots → length (page_bytes m.frames m.pages.pages slots p) ≡ m.frames.page
+pub bytes_size : (m : Memory) (v : StoreView) (slots : ℕ → List ℕ) (p : Option PageId) → IsSound m → v.count ≡ length m.slots → v.page ≡ m.frames.page → HasPages v slots → length (page_bytes m.frames m.pages.pages slots p) ≡ m.frames.page
 bytes_size m v slots None s count page h = length-replicate m.frames.page 0
 bytes_size m v slots (Some p) s count page h = place_size m v slots p.0 (page_at m.pages.pages p.0).place s count page h refl
 
@@ -133,7 +133,7 @@ next_inside off page n count p w l =
     let h : page * (off / page + 1) < page * count = omega (arith, is, below, more, l, w) in
     grind (arith, h, p)
 
-place_split : (off p page : ℕ) → p ≡ page → 0 < p → off ≡ page * (off / p) + off % p
+pub place_split : (off p page : ℕ) → p ≡ page → 0 < p → off ≡ page * (off / p) + off % p
 place_split off p page e pos = subst (λ z. off ≡ z * (off / p) + off % p) e (omega (arith, pos))
 
 -- a range that ends in its first page

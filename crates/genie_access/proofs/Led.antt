@@ -50,7 +50,7 @@ use Rattle.genie_access.specs.Reading.{ReadsObject, is_of_object}
 use Rattle.genie_access.proofs.Outside.{told_object, object_alike, unhidden}
 use Rattle.genie_access.proofs.Alike.{view_moved}
 
-reach_view : (k : Kernel) (b : Bytes) (p a n : ℕ) → model.reach_of (state_of k b) p a n ≡ option_map (region_view b.seen.entry_bytes) (reach extent k.config.page a n (regions_of (entry k.spaces.processes p)))
+pub reach_view : (k : Kernel) (b : Bytes) (p a n : ℕ) → model.reach_of (state_of k b) p a n ≡ option_map (region_view b.seen.entry_bytes) (reach extent k.config.page a n (regions_of (entry k.spaces.processes p)))
 reach_view k b p a n =
     let q : flat.Region → Bool = λ r. is_reached k.config.page a n (model.extent_of r) in
     ap (find q) (ask_regions k b p) ∙ find_map q (region_view b.seen.entry_bytes) (regions_of (entry k.spaces.processes p))
@@ -124,7 +124,7 @@ reads_at k m v w p a n o off bytes g s l reads = by v.slots w.slots s.seen reads
         ∙ ap (part (a - region.start * k.config.page) n) whole
         ∙ sym (ap (λ (x : Option flat.Region). bytes_reached (state_of k (bytes_over k.memory t rests sents)) x a n) (reach_view k (bytes_over k.memory t rests sents) p a n ∙ ap (option_map (region_view (seen k.memory t).entry_bytes)) l.found))
 
-other_object : (o a : ℕ) (hidden : List ℕ) → is_among o hidden ≡ false → is_among a hidden ≡ true → (a == o) ≡ false
+pub other_object : (o a : ℕ) (hidden : List ℕ) → is_among o hidden ≡ false → is_among a hidden ≡ true → (a == o) ≡ false
 other_object o a hidden out among = ⊎_elim (λ (e : (a == o) ≡ true). let same : a ≡ o = eqb-true a o e in let clash : true ≡ false = sym among ∙ ap (λ z. is_among z hidden) same ∙ out in absurd (cc)) (λ e. e) (cases_Bool (a == o))
 
 still : (p q : Bool) → (p ≡ true → q ≡ true) → q ≡ false → p ≡ false

@@ -3,3 +3,7 @@ mod Alike
 mod Pieces
 mod Joined
 mod Led
+mod Once
+mod Stored
+mod Changed
+mod Wrote

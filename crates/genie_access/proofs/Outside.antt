@@ -27,7 +27,7 @@ count_has o r (x ∷ rs) (inl h) e =
     omega (arith, here, sum_by-cons (λ (y : Region). num (has_object o y)) x rs)
 count_has o r (x ∷ rs) (inr h) e = omega (arith, count_has o r rs h e, sum_by-cons (λ (y : Region). num (has_object o y)) x rs)
 
-count_both : (o : ℕ) (rs qs : List Region) → count_by (has_object o) (rs ++ qs) ≡ count_by (has_object o) rs + count_by (has_object o) qs
+pub count_both : (o : ℕ) (rs qs : List Region) → count_by (has_object o) (rs ++ qs) ≡ count_by (has_object o) rs + count_by (has_object o) qs
 count_both o [] qs = omega arith
 count_both o (x ∷ rs) qs = omega (arith, count_both o rs qs, sum_by-cons (λ (y : Region). num (has_object o y)) x rs, sum_by-cons (λ (y : Region). num (has_object o y)) x (rs ++ qs))
 
@@ -35,7 +35,7 @@ count_hidden : (o : ℕ) (hidden : List Hidden) → count_by (λ h. h == o) (obj
 count_hidden o [] = refl
 count_hidden o (h ∷ hidden) = omega (arith, count_hidden o hidden, sum_by-cons (λ (y : Region). num (has_object o y)) (hidden_region h) (map hidden_region hidden), sum_by-cons (λ n. num (n == o)) (object_of h) (objects_of hidden))
 
-most_one : (b : Bool) → (if b then 0 else 1) ≤ 1
+pub most_one : (b : Bool) → (if b then 0 else 1) ≤ 1
 most_one true = omega arith
 most_one false = omega arith
 
@@ -62,7 +62,7 @@ guards_outside k m g narrows = λ n d l shut i.
     (λ no. no)
     (cases_Bool (entry_at m.objects r.object.0 i).writable)
 
-bytes_alike : (s t : ℕ → ℕ → List ℕ) (o : ℕ) (xs : List ℕ) → ((i : ℕ) → s o i ≡ t o i) → flat_map (s o) xs ≡ flat_map (t o) xs
+pub bytes_alike : (s t : ℕ → ℕ → List ℕ) (o : ℕ) (xs : List ℕ) → ((i : ℕ) → s o i ≡ t o i) → flat_map (s o) xs ≡ flat_map (t o) xs
 bytes_alike s t o [] e = refl
 bytes_alike s t o (x ∷ xs) e = ap₂ ◌++◌ (e x) (bytes_alike s t o xs e)
 

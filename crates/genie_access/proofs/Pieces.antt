@@ -39,7 +39,7 @@ told_framed old new o i f (Some s) (Some t) same e =
     let shown : seen new t ≡ seen old s = cc in
     sym (ap (λ (x : Seen). x.entry_bytes o i) shown) ∙ entry_shown new t o i f e
 
-if_told : {X : Type 0} (o : Option X) (P Q : X → Type 0) → ((x : X) → P x → Q x) → IfSome o P → IfSome o Q
+pub if_told : {X : Type 0} (o : Option X) (P Q : X → Type 0) → ((x : X) → P x → Q x) → IfSome o P → IfSome o Q
 if_told None P Q h p = tt
 if_told (Some x) P Q h p = h x p
 

@@ -1,3 +1,4 @@
 pub mod Moving
 pub mod Reached
 pub mod Reading
+pub mod Storing

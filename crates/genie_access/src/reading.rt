@@ -31,8 +31,8 @@ fn place_in(region: &Region, addr: u32, page: u32) -> u32
     addr - region.start * page
 }
 
-// The object of the region that a read reaches, and where in it the read begins.
-fn find_place(kernel: &Kernel, pid: u32, addr: u32, len: u32) -> (ObjectId, u32)
+// The object of the region that an access reaches, and where in it the access begins.
+pub(crate) fn find_place(kernel: &Kernel, pid: u32, addr: u32, len: u32) -> (ObjectId, u32)
     requires good { IsGood kernel.now }
     requires accepted { refuse (outline kernel.now) (event.Read pid addr len) ≡ None }
     ensures { LeadsTo kernel.now pid addr len result.0 result.1 }
@@ -45,7 +45,7 @@ fn find_place(kernel: &Kernel, pid: u32, addr: u32, len: u32) -> (ObjectId, u32)
 }
 
 // Makes two frames free.
-fn make_two<S: Store>(kernel: &mut Kernel, store: &mut S) -> Result<(), StoreFault>
+pub(crate) fn make_two<S: Store>(kernel: &mut Kernel, store: &mut S) -> Result<(), StoreFault>
     requires good { IsGood kernel.old }
     requires sized { IsSized kernel.old.memory (S.view store.old) }
     requires meters { AreBelow (2 ^ 63) kernel.old.memory.frames.meters }
