@@ -48,8 +48,8 @@ fn set_mode(kernel: &mut Kernel, pid: u32, region: Region, writable: bool)
     regions.set_writable(region.id, writable);
 }
 
-/// Makes the region that starts at page `page` read-only or read-write. What is seen of it stays. No region starts there,
-/// or it must stay as it is: otherwise the event is refused.
+/// Makes the region that starts at page `page` read-only or read-write. What is seen of it stays. Where no region starts
+/// there, or it must stay writable, the event is refused.
 pub fn protect(kernel: &mut Kernel, pid: u32, page: u32, writable: bool) -> Reply<'static>
     requires good { IsGood kernel.old }
     requires accepted { refuse (outline kernel.old) (event.Protect pid page writable) ≡ None }
