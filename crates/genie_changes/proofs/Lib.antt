@@ -22,3 +22,5 @@ pub mod Leaving
 pub mod LeftPages
 pub mod Ending
 pub mod Fitting
+pub mod GivenBack
+pub mod EndedTransfer

@@ -7,3 +7,5 @@ pub mod Working
 pub mod Regions
 pub mod Premises
 pub mod Removing
+pub mod Settled
+pub mod Ending
