@@ -22,3 +22,10 @@ pub mod Leaving
 pub mod LeftPages
 pub mod Ending
 pub mod Fitting
+pub mod Settling
+pub mod Lent
+pub mod Keeping
+pub mod RegionGone
+pub mod StateGone
+pub mod Paging
+pub mod Forgetting

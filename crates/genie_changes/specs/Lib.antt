@@ -7,3 +7,6 @@ pub mod Working
 pub mod Regions
 pub mod Premises
 pub mod Removing
+pub mod Settled
+pub mod Paged
+pub mod Removal

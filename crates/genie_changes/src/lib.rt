@@ -5,5 +5,7 @@
 pub mod given;
 pub mod parts;
 pub mod regions;
+pub mod removal;
+pub mod settled;
 pub mod states;
 pub mod work;
