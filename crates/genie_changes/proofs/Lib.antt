@@ -24,3 +24,10 @@ pub mod Ending
 pub mod Fitting
 pub mod GivenBack
 pub mod EndedTransfer
+pub mod Settling
+pub mod Lent
+pub mod Keeping
+pub mod RegionGone
+pub mod StateGone
+pub mod Paging
+pub mod Forgetting

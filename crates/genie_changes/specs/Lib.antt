@@ -9,3 +9,5 @@ pub mod Premises
 pub mod Removing
 pub mod Settled
 pub mod Ending
+pub mod Paged
+pub mod Removal

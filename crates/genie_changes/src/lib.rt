@@ -6,5 +6,7 @@ pub mod ends;
 pub mod given;
 pub mod parts;
 pub mod regions;
+pub mod removal;
+pub mod settled;
 pub mod states;
 pub mod work;
