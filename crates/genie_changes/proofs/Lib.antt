@@ -31,3 +31,4 @@ pub mod RegionGone
 pub mod StateGone
 pub mod Paging
 pub mod Forgetting
+pub mod RegionTurned

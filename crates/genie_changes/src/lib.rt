@@ -9,4 +9,5 @@ pub mod regions;
 pub mod removal;
 pub mod settled;
 pub mod states;
+pub mod turned;
 pub mod work;
