@@ -3,3 +3,5 @@ pub mod Phases
 pub mod Served
 pub mod Applied
 pub mod Sent
+pub mod Filled
+pub mod MovedOut

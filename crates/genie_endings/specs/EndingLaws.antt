@@ -3,6 +3,7 @@ use Rattle.genie_kernel.specs.Steps.{StaysOrderly}
 use Rattle.genie_changes.specs.Ending.{NoBufferEnds, TransferEnds, GivenBackLeavesOthers, SettledLendsSoundly, GivenBackEndsLoans, GivenBackKeeps, GivenBackShows, OutlinesShowOthers, TransferLeaves}
 use Rattle.genie_changes.specs.Pending.{PostedLess, PostedBesideLess}
 use Rattle.genie_changes.specs.Settled.{GoodIsSettled, SettledIsGood}
+use Rattle.genie_changes.specs.Turned.{TurnedSettles, MovedOutState, MovedOutLists}
 
 -- what a transfer less leaves of the state and of what is true of a kernel
 pub record EndingLaws : Type 0 where
@@ -20,3 +21,6 @@ pub record EndingLaws : Type 0 where
   pub state : TransferLeaves
   pub posted : PostedLess
   pub beside : PostedBesideLess
+  pub turns : TurnedSettles
+  pub moved : MovedOutState
+  pub lists : MovedOutLists

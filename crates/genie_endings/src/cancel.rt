@@ -2,6 +2,7 @@
 ghost use Rattle.std.specs.Prelude.{◌≡◌, None, IfSome, IsTrue, find};
 ghost use Rattle.genie_base.specs.Transfers.{class_of};
 ghost use Rattle.genie_base.specs.declared.event.Event.TheVariants as event;
+ghost use Rattle.genie_base.specs.declared.semantics.Class.TheVariants.{WeakMove};
 ghost use Rattle.genie_model.specs.Refusing.{refuse};
 ghost use Rattle.genie_kernel.specs.Calls.{has_number};
 ghost use Rattle.genie_kernel.specs.Good.{IsGood};
@@ -11,8 +12,10 @@ ghost use Rattle.genie_endings.specs.Serving.{IsServed};
 
 use crate::call::end_call;
 use crate::laws::ending_laws;
+use crate::region::{move_out, named_region};
 use genie_base::{Reply, TransferId};
 use genie_kernel::Kernel;
+use genie_room::laws::queues_suffice;
 
 /// Takes back a posted input whose buffer is the application's, of copy or share semantics. Its loans are given back, and
 /// its region stays as it is. Once a datagram has met the input, the event is refused.
@@ -26,4 +29,25 @@ pub fn cancel_app(kernel: &mut Kernel, id: u32) -> Reply<'static>
     let _transfer = end_call(kernel, TransferId(id));
     let _posted = kernel.posted.cancel(id);
     Reply::Okay
+}
+
+/// Takes back a posted weak move input. Its loans are given back, and its region is moved out, the last one of its process's
+/// queue. Once a datagram has met the input, the event is refused.
+pub fn cancel_weak_move(kernel: &mut Kernel, id: u32) -> Reply<'static>
+    requires good { IsGood kernel.old }
+    requires accepted { refuse (outline kernel.old) (event.Cancel id) ≡ None }
+    requires class { IfSome (find (has_number id) kernel.old.transfers) (λ t. class_of t.sem ≡ WeakMove) }
+    ensures { IsServed kernel.old (event.Cancel id) kernel.new result }
+{
+    ending_laws();
+    queues_suffice();
+    let transfer = end_call(kernel, TransferId(id));
+    let _posted = kernel.posted.cancel(id);
+    match named_region(kernel, &transfer) {
+        Some(placed) => {
+            move_out(kernel, placed.pid, placed.region);
+            Reply::Okay
+        }
+        None => Reply::Okay,
+    }
 }
