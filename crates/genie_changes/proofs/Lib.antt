@@ -32,3 +32,4 @@ pub mod StateGone
 pub mod Paging
 pub mod Forgetting
 pub mod RegionTurned
+pub mod UnnamedGone

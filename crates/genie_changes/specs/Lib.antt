@@ -12,3 +12,4 @@ pub mod Ending
 pub mod Paged
 pub mod Removal
 pub mod Turned
+pub mod Unnamed

@@ -10,4 +10,5 @@ pub mod removal;
 pub mod settled;
 pub mod states;
 pub mod turned;
+pub mod unnamed;
 pub mod work;
