@@ -99,7 +99,7 @@ named_not s (Some p) (Some j) q r e o n h =
     let clash : Some (placed_in p some.0) ≡ None = sym (ap (option_map (placed_in p)) some.1) ∙ e in
     absurd (cc)
 
-named_true : (region : Option RegionId) (j : ℕ) → option_map (λ (i : RegionId). i.0) region ≡ Some j → is_named region j ≡ true
+pub named_true : (region : Option RegionId) (j : ℕ) → option_map (λ (i : RegionId). i.0) region ≡ Some j → is_named region j ≡ true
 named_true None j e = absurd (cc)
 named_true (Some i) j e = let same : i.0 ≡ j = cc in grind (arith, rules, same)
 

@@ -4,4 +4,6 @@ pub mod Served
 pub mod Applied
 pub mod Sent
 pub mod Filled
+pub mod GivenUp
 pub mod MovedOut
+pub mod Removed
