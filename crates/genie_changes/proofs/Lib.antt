@@ -33,3 +33,5 @@ pub mod Paging
 pub mod Forgetting
 pub mod RegionTurned
 pub mod UnnamedGone
+pub mod BuffersAlike
+pub mod BufferFreed

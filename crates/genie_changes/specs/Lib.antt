@@ -13,3 +13,4 @@ pub mod Paged
 pub mod Removal
 pub mod Turned
 pub mod Unnamed
+pub mod Released

@@ -6,6 +6,7 @@ pub mod ends;
 pub mod given;
 pub mod parts;
 pub mod regions;
+pub mod released;
 pub mod removal;
 pub mod settled;
 pub mod states;
