@@ -1,6 +1,7 @@
 -- The kernel is good once a device has gone on with the record of an output.
 use Rattle.std.proofs.Common.{◌≡◌, ℕ, ◌≤◌, Bool, true, false, not, List, refl, sym, ap, subst, arith, rules, ◌∙◌, set, get_or}
 use Rattle.std.specs.Prelude.{Option, Some, None, IfSome, find, is_some, ◌&&◌, ◌==◌, ◌≢◌, if◌then◌else◌}
+use Rattle.std.proofs.Math.Bool.{and-false}
 use Rattle.std.proofs.lemmas.List.{length-set}
 use Rattle.genie_base.specs.declared.config.DeviceConfig.{DeviceConfig}
 use Rattle.genie_device.specs.Device.{DeviceView}
@@ -9,6 +10,7 @@ use Rattle.genie_input.specs.Pools.{PoolState}
 use Rattle.genie_orderly.specs.Orderly.{IsOrderly}
 use Rattle.genie_model.specs.Pending as pending
 use Rattle.genie_model.specs.Tables.{entry}
+use Rattle.genie_model.specs.declared.phase.Phase.{Phase}
 use Rattle.genie_model.specs.Lemmas.Lists.{Has, find_has, all_has}
 use Rattle.genie_kernel.specs.declared.kernel.Kernel.{Kernel}
 use Rattle.genie_kernel.specs.declared.transfer.Transfer.{Transfer}
@@ -27,14 +29,11 @@ use Rattle.genie_sending.specs.Sending.{sent_whole}
 use Rattle.genie_sending.specs.WorkLaws.{WorkLaws}
 use Rattle.genie_sending.proofs.Devices.{with_output}
 use Rattle.genie_sending.proofs.Ended.{found_by_number}
-use Rattle.genie_sending.proofs.Outputs.{IsFirstOutput, its_device, queued}
+use Rattle.genie_sending.proofs.Outputs.{IsFirstOutput, its_device, queued, queued_unmoved}
 use Rattle.genie_sending.proofs.Places.{carried_at, elsewhere, same_at, so_at, within}
 
-queued_unposted : (p : _) → pending.is_queued p ≡ true → pending.is_posted p ≡ false
+queued_unposted : (p : Phase) → pending.is_queued p ≡ true → pending.is_posted p ≡ false
 queued_unposted p e = grind (arith, rules, e)
-
-queued_unmoved : (p : _) → pending.is_queued p ≡ true → pending.is_moving p ≡ false
-queued_unmoved p e = grind (arith, rules, e)
 
 no_buffer : (o : Option ℕ) → is_some o ≡ false → o ≡ None
 no_buffer None e = refl
@@ -172,10 +171,7 @@ module _ (k : Kernel) (g : IsGood k) (d : ℕ) (t : Transfer) (is : IsFirstOutpu
     empty = no_buffer t.buffer (all_has (λ (u : Transfer). is_some u.buffer ≡ (has_arrived u.dev u && not (is_early_device (entry vs u.dev)))) k.transfers g.arrived.inputs t there_is ∙ ap (λ b. b && not (is_early_device (entry vs t.dev))) (unarrived t.dev (pending.is_ready t.phase) (t.dev == t.dev)))
 
     none_of : (j b : ℕ) → has_buffer j b t ≡ false
-    none_of j b = ap (λ o. (t.dev == j) && pending.is_just o b) empty ∙ none_and (t.dev == j) where
-      none_and : (a : Bool) → (a && false) ≡ false
-      none_and true = refl
-      none_and false = refl
+    none_of j b = ap (λ o. (t.dev == j) && pending.is_just o b) empty ∙ and-false (t.dev == j)
 
     gets : GetsBuffer (sent_whole t) t vs us k.pools k.pools
     gets = record {

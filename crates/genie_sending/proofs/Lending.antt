@@ -92,6 +92,9 @@ first_output k d t g found =
     let call : IsTransfer (see t) = all_has IsTransfer (outline k).transfers g.orderly.calls (see t) (has_map see t k.transfers has.0) in
     record { waits = found; outward = phase_outward t.dir t.phase call.phase (and_parts (pending.is_queued t.phase) (t.dev == d) has.1).0 }
 
+pub no_loan : OutLoan
+no_loan = record { frame = record { 0 = 0 }; strong = false }
+
 kind_same : (strong : Bool) → is_kind (output_kind strong) (output_kind strong) ≡ true
 kind_same true = refl
 kind_same false = refl
@@ -123,7 +126,7 @@ no_address WeakMove direction.Outward e = refl
 pub begins_there : (t : Transfer) → t.dir ≡ direction.Outward → begins_at t ≡ t.offset
 begins_there t out = ap (λ b. unwrap_or (if b then Some t.addr else None) t.offset) (no_address (class_of t.sem) t.dir out)
 
-whole_pages : (page a b : ℕ) → 0 < page → a ≤ b → a / page ≤ b / page
+pub whole_pages : (page a b : ℕ) → 0 < page → a ≤ b → a / page ≤ b / page
 whole_pages page a b some l = le-div (a / page) b page some (let d = mul-div-le a page in let c : page * (a / page) ≡ a / page * page = omega arith in omega (arith, d, l, c))
 
 times_apart : (page e q : ℕ) → q ≤ e → page * e ≡ page * (e - q) + page * q
@@ -205,9 +208,6 @@ module _ (k : Kernel) (g : IsGood k) (d : ℕ) (t : Transfer) (is : IsFirstOutpu
           sym (range_length (output_frames items) first len k.memory.frames g.sound.shaped (λ j l. frame_there j l) within ∙ long),
         )
       where
-        no_loan : OutLoan
-        no_loan = record { frame = record { 0 = 0 }; strong = false }
-
         frame_there : (j : ℕ) → j < length (output_frames items) → get_or (output_frames items) j 0 < length k.memory.frames.counts
         frame_there j l =
             let size = out_frames_count items in

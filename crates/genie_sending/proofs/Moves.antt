@@ -1,5 +1,5 @@
 -- A step that sends, on the state and under its mark.
-use Rattle.std.proofs.Common.{◌≡◌, ℕ, ◌+◌, ◌<◌, ◌≤◌, Bool, true, false, List, [], ◌∷◌, ◌++◌, refl, sym, ap, subst, arith, rules, ◌∙◌, set, length, eqb-true, eq-eqb, ne_eqb}
+use Rattle.std.proofs.Common.{append-nil, ◌≡◌, ℕ, ◌+◌, ◌<◌, ◌≤◌, Bool, true, false, List, [], ◌++◌, refl, sym, ap, subst, arith, rules, ◌∙◌, set, length, eqb-true, eq-eqb, ne_eqb}
 use Rattle.std.specs.Prelude.{Some, min, ◌==◌, if◌then◌else◌}
 use Rattle.genie_base.specs.Events.{mark_of}
 use Rattle.genie_base.specs.Records.{header_len, unsent_bytes}
@@ -35,12 +35,8 @@ all_staged Early staged len e l none = sym (ap length (none refl))
 all_staged Pooled staged len e l none = sym (ap length (none refl))
 all_staged Outboard staged len e l none = grind (arith, rules, e, l)
 
-append_none : (xs : List ℕ) → xs ++ [] ≡ xs
-append_none [] = refl
-append_none (x ∷ xs) = ap (λ l. x ∷ l) (append_none xs)
-
 none_more : (c : Bool) (xs : List ℕ) → (if c then xs ++ [] else xs) ≡ xs
-none_more true xs = append_none xs
+none_more true xs = append-nil xs
 none_more false xs = refl
 
 pub nothing_sent : (b : Bytes) (d : ℕ) (new : List ℕ) → new ≡ [] → more_sent b d new ≡ b

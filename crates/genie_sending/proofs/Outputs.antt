@@ -2,6 +2,7 @@
 use Rattle.std.proofs.Common.{◌≡◌, ℕ, ◌+◌, ◌<◌, Bool, true, false, not, List, [], ◌∷◌, ◌++◌, refl, sym, ap, arith, rules, ◌∙◌, map, set, eqb-true, cond, length, take, ⊎_elim}
 use Rattle.std.specs.Prelude.{Option, Some, None, AllPairs, find, ◌==◌, ◌&&◌, ◌≢◌, if◌then◌else◌}
 use Rattle.std.specs.Option.{option_map}
+use Rattle.std.proofs.Math.Bool.{and-false}
 use Rattle.std.proofs.lemmas.Bool.{and_parts}
 use Rattle.genie_base.specs.Lemmas.Places.{same_or}
 use Rattle.genie_base.specs.Records.{header_len}
@@ -13,6 +14,7 @@ use Rattle.genie_input.specs.Pools.{PoolState}
 use Rattle.genie_model.specs.Pending as pending
 use Rattle.genie_model.specs.State as flat
 use Rattle.genie_model.specs.Tables.{entry, change, without}
+use Rattle.genie_model.specs.declared.phase.Phase.{Phase}
 use Rattle.genie_model.specs.Lemmas.Lists.{Has, find_has, pairs_head, pairs_tail}
 use Rattle.genie_kernel.specs.declared.transfer.Transfer.{Transfer}
 use Rattle.genie_kernel.specs.Calls.{number_of, region_number, addr_of, waits_for, first_waiting, is_first, is_sent}
@@ -72,12 +74,11 @@ queued ts d t h = (and_parts (pending.is_queued t.phase) (t.dev == d) (find_has 
 pub its_device : (ts : List Transfer) (d : ℕ) (t : Transfer) → IsFirstOutput ts d t → t.dev ≡ d
 its_device ts d t h = eqb-true t.dev d (and_parts (pending.is_queued t.phase) (t.dev == d) (find_has (waits_for d) ts t h.waits).1).1
 
-queued_unready : (p : _) → pending.is_queued p ≡ true → pending.is_ready p ≡ false
+queued_unready : (p : Phase) → pending.is_queued p ≡ true → pending.is_ready p ≡ false
 queued_unready p e = grind (arith, rules, e)
 
-none_and : (a : Bool) → (a && false) ≡ false
-none_and true = refl
-none_and false = refl
+pub queued_unmoved : (p : Phase) → pending.is_queued p ≡ true → pending.is_moving p ≡ false
+queued_unmoved p e = grind (arith, rules, e)
 
 module _ (ts : List Transfer) (d : ℕ) (t : Transfer) (is : IsFirstOutput ts d t) where
   abbrev first : ℕ → Option Transfer
@@ -87,7 +88,7 @@ module _ (ts : List Transfer) (d : ℕ) (t : Transfer) (is : IsFirstOutput ts d 
   first_here = ap (λ o. pending.is_queued t.phase && pending.is_just (option_map number_of o) t.id.0) (ap first (its_device ts d t is) ∙ is.waits) ∙ (let q = queued ts d t is in grind (arith, rules, q))
 
   unsent_here : is_sent t ≡ false
-  unsent_here = ap (λ b. not (pending.is_inward t.dir) && b) (queued_unready t.phase (queued ts d t is)) ∙ none_and (not (pending.is_inward t.dir))
+  unsent_here = ap (λ b. not (pending.is_inward t.dir) && b) (queued_unready t.phase (queued ts d t is)) ∙ and-false (not (pending.is_inward t.dir))
 
   -- as it is seen where a device is at work on it
   pub first_view : (s : ℕ → List ℕ) (vs : List (Option DeviceView)) (pools : List (Option PoolState)) (v : DeviceView) → entry vs d ≡ Some v → transfer_view s vs pools first t ≡ sending_view s t v
@@ -112,7 +113,7 @@ module _ (ts : List Transfer) (d : ℕ) (t : Transfer) (is : IsFirstOutput ts d 
       touched_same : {Y : Type 0} (f : Option DeviceView → Y) (none : Y) → (if is_first first x then f (entry us x.dev) else none) ≡ (if is_first first x then f (entry vs x.dev) else none)
       touched_same f none = ⊎_elim
           (λ (here : x.dev ≡ d).
-          let later : is_first first x ≡ false = ap (λ o. pending.is_queued x.phase && pending.is_just (option_map number_of o) x.id.0) (ap first here ∙ is.waits) ∙ ap (λ b. pending.is_queued x.phase && b) differ ∙ none_and (pending.is_queued x.phase) in
+          let later : is_first first x ≡ false = ap (λ o. pending.is_queued x.phase && pending.is_just (option_map number_of o) x.id.0) (ap first here ∙ is.waits) ∙ ap (λ b. pending.is_queued x.phase && b) differ ∙ and-false (pending.is_queued x.phase) in
           ap (λ b. if b then f (entry us x.dev) else none) later ∙ sym (ap (λ b. if b then f (entry vs x.dev) else none) later))
           (λ (other : x.dev ≢ d). ap (λ o. if is_first first x then f o else none) (elsewhere vs d x.dev (Some w) other))
           (same_or x.dev d)

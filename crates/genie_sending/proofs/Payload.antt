@@ -1,5 +1,5 @@
 -- The bytes of an output, as the flat machine has them and as its device sends them.
-use Rattle.std.proofs.Common.{◌≡◌, ◌≢◌, ℕ, ◌+◌, ◌<◌, ◌≤◌, suc, Bool, true, false, List, [], ◌∷◌, ◌++◌, refl, sym, ap, ap₂, subst, arith, rules, ◌∙◌, length, drop, get_or, length-take}
+use Rattle.std.proofs.Common.{append-nil, ◌≡◌, ◌≢◌, ℕ, ◌+◌, ◌<◌, ◌≤◌, suc, Bool, true, false, List, [], ◌∷◌, ◌++◌, refl, sym, ap, ap₂, subst, arith, rules, ◌∙◌, length, drop, get_or, length-take}
 use Rattle.std.specs.Prelude.{Some, ◌||◌, if◌then◌else◌}
 use Rattle.std.proofs.lemmas.List.{drop_all, take_all}
 use Rattle.genie_base.specs.Bytes.{part}
@@ -7,7 +7,6 @@ use Rattle.genie_base.specs.Records.{header_bytes, record_bytes}
 use Rattle.genie_device.specs.Device.{DeviceView, is_outboard as is_outboard_kind, stages}
 use Rattle.genie_device.specs.Sending.{payload_of as sent_from}
 use Rattle.genie_frame.specs.declared.frame.Counts.{Counts}
-use Rattle.genie_frame.specs.declared.frame.OutLoan.{OutLoan}
 use Rattle.genie_frame.specs.declared.frame.Owner.{Owner}
 use Rattle.genie_frame.specs.declared.frame.Owner.TheVariants.{Free, Page, System, Pool, Nobody}
 use Rattle.genie_frame.specs.FrameTable.{Agree, FrameTable, bytes_at, counts_at, is_lent, owner_at}
@@ -33,6 +32,7 @@ use Rattle.genie_kernel.specs.Steps.{bytes_over}
 use Rattle.genie_kernel.specs.Transfers.{unstaged}
 use Rattle.genie_kernel.specs.View.{Bytes, state_of}
 use Rattle.genie_sending.specs.Sending.{IsLentOut, payload_under}
+use Rattle.genie_sending.proofs.Lending.{no_loan}
 use Rattle.genie_sending.proofs.Moves.{all_staged}
 use Rattle.genie_sending.proofs.Outputs.{IsFirstOutput, its_device, sending_view}
 use Rattle.genie_sending.proofs.States.{kinds_same, outboard_is}
@@ -60,9 +60,6 @@ kept_frame t f agree l = kept_owner (owner_at t f) (counts_at t f) (λ free. let
 pub frames_shown : (s : ℕ → List ℕ) (t : FrameTable) (frames : List ℕ) → ((j : ℕ) → j < length frames → s (get_or frames j 0) ≡ bytes_at t (get_or frames j 0)) → bytes_in_frames s frames ≡ joined t.bytes frames
 frames_shown s t [] h = refl
 frames_shown s t (f ∷ frames) h = ap₂ ◌++◌ (h 0 (omega arith)) (frames_shown s t frames (λ j l. h (suc j) (omega (arith, l))))
-
-no_loan : OutLoan
-no_loan = record { frame = record { 0 = 0 }; strong = false }
 
 module _ (k : Kernel) (g : IsGood k) (t : Transfer) (slots : ℕ → List ℕ) (strong : is_strong_call t ≡ true) where
   kept : ℕ → List ℕ
@@ -94,10 +91,6 @@ payload_length t len (Inward p) h = absurd h
 or_true : (b : Bool) → (b || true) ≡ true
 or_true true = refl
 or_true false = refl
-
-append_none : (xs : List ℕ) → xs ++ [] ≡ xs
-append_none [] = refl
-append_none (x ∷ xs) = ap (λ l. x ∷ l) (append_none xs)
 
 module _ (k : Kernel) (d : ℕ) (t : Transfer) (is : IsFirstOutput k.transfers d t) (v : DeviceView) (there : entry k.devices d ≡ Some v) (goes : IsSendingFor v t) (no_stage : stages v.config.kind v.staged t.len ≡ false) (lent : IsLentOut k.memory.frames t.len t.loans) (slots : ℕ → List ℕ) (shows : ShowsNow k t slots) (rests sents : ℕ → List ℕ) where
   abbrev b : Bytes
@@ -136,7 +129,7 @@ module _ (k : Kernel) (d : ℕ) (t : Transfer) (is : IsFirstOutput k.transfers d
       let keeps : keeps_bytes s x ≡ true = ap (λ c. is_strong_call t || c) (outboard_at ∙ o) ∙ or_true (is_strong_call t) in
       let all : length v.staged ≡ t.len = sym full ∙ ap (λ c. if c then t.len else 0) o in
       ap (λ c. if c then x.payload else named_bytes s x.region x.offset x.len) keeps
-      ∙ ap (λ l. v.staged ++ l) (none_left strong e all) ∙ append_none v.staged
+      ∙ ap (λ l. v.staged ++ l) (none_left strong e all) ∙ append-nil v.staged
       ∙ sym (ap (λ c. sent_from c v.staged lent_payload) (sym (kinds_same v.config.kind) ∙ o))
   payload_by false true o e =
       let keeps : keeps_bytes s x ≡ true = ap (λ c. c || pending.is_outboard_at s x.device) e in

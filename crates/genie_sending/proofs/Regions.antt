@@ -3,13 +3,12 @@ use Rattle.std.proofs.Common.{◌≡◌, ℕ, ◌+◌, ◌-◌, ◌*◌, ◌/◌
 use Rattle.std.specs.Prelude.{Option, Some, None, find, flat_map, nat_le, nat_lt, ◌==◌, ◌&&◌, replicate, if◌then◌else◌}
 use Rattle.std.specs.List.{range_with_len}
 use Rattle.std.specs.Option.{option_map}
-use Rattle.std.proofs.Math.Nat.{div-add-mod, mul-div-le}
+use Rattle.std.proofs.Math.Nat.{div-add-mod}
 use Rattle.std.proofs.lemmas.List.{length-replicate}
 use Rattle.genie_base.specs.Bytes.{part}
 use Rattle.genie_base.specs.Counts.{span}
 use Rattle.genie_base.specs.Lemmas.Places.{same_or}
 use Rattle.genie_base.specs.declared.numbers.RegionId.{RegionId}
-use Rattle.std.proofs.lemmas.Nat.{le-div}
 use Rattle.genie_object.specs.declared.memory.Memory.{Memory}
 use Rattle.genie_object.specs.declared.pages.PageId.{PageId}
 use Rattle.genie_object.specs.declared.pages.PageInfo.{PageInfo}
@@ -40,7 +39,7 @@ use Rattle.genie_kernel.specs.Steps.{bytes_over}
 use Rattle.genie_kernel.specs.View.{state_of}
 use Rattle.genie_changes.specs.Premises.{RegionsLeavePages}
 use Rattle.genie_sending.specs.Sending.{IsLentOut, payload_under}
-use Rattle.genie_sending.proofs.Lending.{begins_there, lends, page_above}
+use Rattle.genie_sending.proofs.Lending.{begins_there, lends, page_above, whole_pages}
 use Rattle.genie_sending.proofs.Named.{its_pages, nothing_named, part_of_part, payload_is, range_of, region_seen, within_is}
 use Rattle.genie_sending.proofs.Outputs.{IsFirstOutput}
 use Rattle.genie_sending.proofs.Sent.{AreFull}
@@ -86,9 +85,6 @@ last_page page at len pages some l inside =
     let below : (at + len - 1) / page < pages = div_below page (at + len - 1) pages some inside in
     omega (arith, is, low, below)
   where
-    whole_pages : (page a b : ℕ) → 0 < page → a ≤ b → a / page ≤ b / page
-    whole_pages page a b some l = le-div (a / page) b page some (let d = mul-div-le a page in let c : page * (a / page) ≡ a / page * page = omega arith in omega (arith, d, l, c))
-
     div_below : (page x pages : ℕ) → 0 < page → x < pages * page → x / page < pages
     div_below page x pages some l = grind (arith, some, l)
 

@@ -1,5 +1,5 @@
 -- What a step that stages leaves.
-use Rattle.std.proofs.Common.{◌≡◌, ℕ, ◌+◌, ◌-◌, ◌<◌, ◌≤◌, Bool, true, false, List, [], ◌∷◌, ◌++◌, refl, sym, ap, subst, arith, ◌∙◌, set, length, drop, map, filter, append_assoc, take-append-drop, length-append}
+use Rattle.std.proofs.Common.{append-nil, ◌≡◌, ℕ, ◌+◌, ◌-◌, ◌<◌, ◌≤◌, Bool, true, false, List, [], ◌++◌, refl, sym, ap, subst, arith, ◌∙◌, set, length, drop, map, filter, append_assoc, take-append-drop, length-append}
 use Rattle.std.specs.Prelude.{Option, Some, None, AllPairs, IfSome, min, nat_lt, if◌then◌else◌}
 use Rattle.std.specs.Io.KnownBytes.{Appends}
 use Rattle.std.proofs.lemmas.Bool.{and_parts}
@@ -48,14 +48,7 @@ use Rattle.genie_sending.proofs.Telling.{told_steps}
 
 nothing_appended : (a : Option (List ℕ)) → Appends a a []
 nothing_appended None = tt
-nothing_appended (Some x) = append_no x where
-  append_no : (xs : List ℕ) → xs ≡ xs ++ []
-  append_no [] = refl
-  append_no (y ∷ ys) = ap (λ l. y ∷ l) (append_no ys)
-
-no_more : (xs : List ℕ) → xs ++ [] ≡ xs
-no_more [] = refl
-no_more (y ∷ ys) = ap (λ l. y ∷ l) (no_more ys)
+nothing_appended (Some x) = sym (append-nil x)
 
 -- staged bytes and the rest are all
 strong_joined : (staged all : List ℕ) (m : ℕ) → length (part (length staged) m all) ≡ m → (staged ++ part (length staged) m all) ++ drop (length (staged ++ part (length staged) m all)) all ≡ (staged ++ drop (length staged) all) ++ []
@@ -67,7 +60,7 @@ strong_joined staged all m size =
     ∙ ap (λ z. staged ++ (piece ++ drop z all)) long
     ∙ ap (λ z. staged ++ (piece ++ z)) (sym (drop-drop m j all))
     ∙ ap (λ z. staged ++ z) (take-append-drop m (drop j all))
-    ∙ sym (no_more (staged ++ drop j all))
+    ∙ sym (append-nil (staged ++ drop j all))
 
 module _ (laws : WorkLaws) (k : Kernel) (g : IsGood k) (d n : ℕ) (accepted : refuse (outline k) (Send d n) ≡ None) (t : Transfer) (is : IsFirstOutput k.transfers d t) (v w : DeviceView) (there : entry k.devices d ≡ Some v) (goes : IsSendingFor v t) (step : SendStep) (before after : HostView) (has_staged : step.staged ≡ true) (stages_some : stages v.config.kind v.staged t.len ≡ true) (lent : IsLentOut k.memory.frames t.len t.loans) (h : StagesPayload n before after v w (payload_under k.memory.frames t.loans) step) where
   abbrev payload : List ℕ
@@ -211,8 +204,8 @@ module _ (laws : WorkLaws) (k : Kernel) (g : IsGood k) (d n : ℕ) (accepted : r
           let none : (z : ℕ) → unstaged kept t z ≡ [] = λ z. ap (λ c. if c then drop z (lent_bytes kept t) else []) e in
           let f = fits in
           let shown = (shows slots is_full).weak e rests sents (length v.staged) m f in
-          ap (λ l. staged ++ l) (none (length staged)) ∙ no_more staged
-          ∙ (λ i. sym (no_more v.staged) i ++ sym shown i)
+          ap (λ l. staged ++ l) (none (length staged)) ∙ append-nil staged
+          ∙ (λ i. sym (append-nil v.staged) i ++ sym shown i)
           ∙ (λ i. (v.staged ++ sym (none (length v.staged)) i) ++ (if sym e i then [] else named_bytes s (region_number t) (t.offset + length v.staged) m))
 
       here : sending_view kept t new ≡ after_staging m (staged_now s m (seen_as b)) (seen_as b)

@@ -24,7 +24,7 @@ use Rattle.genie_changes.specs.Working.{OrphansWorked, TransfersSent, ReceiverWo
 use Rattle.genie_sending.specs.Sending.{sent_whole}
 use Rattle.genie_sending.proofs.Devices.{with_output, more_at, more_sent, device_same, devices_changed}
 use Rattle.genie_sending.proofs.Ended.{whole_view, found_by_number}
-use Rattle.genie_sending.proofs.Outputs.{IsFirstOutput, sending_view, first_view, going_on, queued}
+use Rattle.genie_sending.proofs.Outputs.{IsFirstOutput, sending_view, first_view, going_on, queued, queued_unmoved}
 use Rattle.genie_sending.proofs.Places.{put_same}
 use Rattle.genie_model.specs.Lemmas.Lists.{find_has}
 use Rattle.genie_kernel.specs.Calls.{waits_for}
@@ -39,9 +39,6 @@ more_here sents d new = let same : (d == d) ≡ true = grind (arith, rules) in a
 
 more_else : (sents : ℕ → List ℕ) (d : ℕ) (new : List ℕ) (j : ℕ) → j ≢ d → more_at sents d new j ≡ sents j
 more_else sents d new j ne = let other : (j == d) ≡ false = grind (arith, rules, ne) in ap (λ b. if b then sents j ++ new else sents j) other
-
-queued_unmoved : (p : _) → pending.is_queued p ≡ true → pending.is_moving p ≡ false
-queued_unmoved p e = grind (arith, rules, e)
 
 module _ (k : Kernel) (b : Bytes) (d : ℕ) (t : Transfer) (v : DeviceView) (there : entry k.devices d ≡ Some v) (is : IsFirstOutput k.transfers d t) where
   abbrev s : flat.State
