@@ -32,7 +32,7 @@ fn send_next<H: Host>(
 ) -> Reply<'static>
     requires good { IsGood kernel.old }
     requires accepted { refuse (outline kernel.old) (event.Send dev budget) ≡ None }
-    requires open { HasHandles kernel.old.config (H.view host.old) }
+    requires handles { HasHandles kernel.old.config (H.view host.old) }
     requires first { IsFirst (waits_for dev) kernel.old.transfers i }
     ensures { SendsNext dev budget (H.view host.old) (H.view host.new) kernel.old kernel.new result }
 {
