@@ -7,3 +7,4 @@ pub mod Working
 pub mod Regions
 pub mod Premises
 pub mod Removing
+pub mod Beginning
