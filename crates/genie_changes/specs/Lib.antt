@@ -8,3 +8,5 @@ pub mod Regions
 pub mod Premises
 pub mod Removing
 pub mod Beginning
+pub mod Lemmas
+pub mod Making
