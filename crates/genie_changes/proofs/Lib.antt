@@ -22,3 +22,6 @@ pub mod Leaving
 pub mod LeftPages
 pub mod Ending
 pub mod Fitting
+pub mod Starting
+pub mod InRegion
+pub mod Moved

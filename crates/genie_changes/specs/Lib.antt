@@ -7,3 +7,6 @@ pub mod Working
 pub mod Regions
 pub mod Premises
 pub mod Removing
+pub mod Beginning
+pub mod Lemmas
+pub mod Making

@@ -2,7 +2,9 @@
 //! state that a kernel stands for, and on the parts of what is true of it.
 #![tactic(auto)]
 
+pub mod beginning;
 pub mod given;
+pub mod making;
 pub mod parts;
 pub mod regions;
 pub mod states;
