@@ -22,6 +22,8 @@ pub mod Leaving
 pub mod LeftPages
 pub mod Ending
 pub mod Fitting
+pub mod GivenBack
+pub mod EndedTransfer
 pub mod Settling
 pub mod Lent
 pub mod Keeping

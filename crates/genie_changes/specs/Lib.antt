@@ -8,5 +8,6 @@ pub mod Regions
 pub mod Premises
 pub mod Removing
 pub mod Settled
+pub mod Ending
 pub mod Paged
 pub mod Removal

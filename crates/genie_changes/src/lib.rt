@@ -2,6 +2,7 @@
 //! state that a kernel stands for, and on the parts of what is true of it.
 #![tactic(auto)]
 
+pub mod ends;
 pub mod given;
 pub mod parts;
 pub mod regions;
