@@ -1,7 +1,6 @@
 -- A kernel without a transfer that no device works on.
-use Rattle.std.proofs.Common.{◌≡◌, ◌≢◌, ℕ, ◌+◌, ◌*◌, ◌<◌, ◌≤◌, zero, suc, Bool, true, false, cond, List, [], ◌∷◌, refl, sym, ap, subst, arith, rules, ◌∙◌, inl, inr, ⊎_elim, map, length, get_or}
-use Rattle.std.specs.Prelude.{Option, Some, None, All, AllPairs, IfSome, find, sum_by, ◌==◌, ◌&&◌}
-use Rattle.std.proofs.lemmas.Bool.{cases_Bool}
+use Rattle.std.proofs.Common.{◌≡◌, ◌≢◌, ℕ, ◌+◌, ◌*◌, ◌<◌, ◌≤◌, true, false, cond, List, [], ◌∷◌, refl, sym, ap, subst, arith, rules, ◌∙◌, map, length, get_or}
+use Rattle.std.specs.Prelude.{Option, Some, None, All, AllPairs, IfSome, find, sum_by}
 use Rattle.std.proofs.lemmas.List.{length-replicate}
 use Rattle.std.proofs.lemmas.List.Sums.{sum_by-cons}
 use Rattle.std.proofs.lemmas.List.Kept.{AllPairs-cons}
@@ -18,22 +17,22 @@ use Rattle.genie_plan.specs.Loans as kind
 use Rattle.genie_plan.specs.Plans.{input_frames}
 use Rattle.genie_region.specs.declared.region.Region.{Region}
 use Rattle.genie_model.specs.Ending.{without_transfer}
-use Rattle.genie_model.specs.Lemmas.Lists.{Has, all_has, has_at, find_has, entry_map, pairs_head, pairs_tail}
+use Rattle.genie_model.specs.Lemmas.Lists.{all_has, has_at, find_has, entry_map, pairs_head, pairs_tail}
 use Rattle.genie_model.specs.Pending.{is_queued, is_moving}
 use Rattle.genie_model.specs.Space.{tidy}
 use Rattle.genie_model.specs.Tables.{without, entry}
 use Rattle.genie_kernel.specs.declared.kernel.Kernel.{Kernel}
 use Rattle.genie_kernel.specs.declared.transfer.Transfer.{Transfer}
-use Rattle.genie_kernel.specs.Calls.{has_number, first_waiting, is_strong_call, names_weakly, receiver}
+use Rattle.genie_kernel.specs.Calls.{has_number, first_waiting, names_weakly, receiver}
 use Rattle.genie_kernel.specs.Counted.{AreCounted, lent_of, loans_on, pool_on}
 use Rattle.genie_kernel.specs.Good.{IsGood}
 use Rattle.genie_kernel.specs.Held.{weak_transfers}
 use Rattle.genie_kernel.specs.Holding.{AreHeldFrames}
-use Rattle.genie_kernel.specs.Kept.{Kept, KeepsOwner, StaysPending}
+use Rattle.genie_kernel.specs.Kept.{Kept, KeepsOwner}
 use Rattle.genie_kernel.specs.Loans.{frames_of, has_frame}
-use Rattle.genie_kernel.specs.Matching.{ArePosted, AreSending, AreReceiving, HaveArrived, IsSending, IsStored, has_buffer, has_waiting}
+use Rattle.genie_kernel.specs.Matching.{ArePosted, IsSending, IsStored}
 use Rattle.genie_kernel.specs.Owners.{AreOwned}
-use Rattle.genie_kernel.specs.Planned.{ArePlanned, FitDevices, FitsDevice, Lends, is_early_device}
+use Rattle.genie_kernel.specs.Planned.{ArePlanned, FitsDevice, Lends, is_early_device}
 use Rattle.genie_kernel.specs.Regions.{has_id, owned_regions}
 use Rattle.genie_kernel.specs.Same.{ShowSame}
 use Rattle.genie_kernel.specs.Steps.{bytes_over}
@@ -46,9 +45,9 @@ use Rattle.genie_kernel.specs.Lemmas.Owning.{owned_less}
 use Rattle.genie_kernel.specs.Lemmas.Staying.{weak_there}
 use Rattle.genie_changes.specs.Ending.{EndsBuffer, EndsLoans, IsGivenBack, LeavesOthers, LendsSoundly, ShowsOthers, bare_device, bare_pool, without_call}
 use Rattle.genie_changes.specs.Premises.{ShowsPages}
-use Rattle.genie_changes.specs.Settled.{IsSettled, LieInRegions}
+use Rattle.genie_changes.specs.Settled.{IsSettled}
 use Rattle.genie_changes.proofs.GivenBack.{differs, has_less, held_by_weak, in_frames}
-use Rattle.genie_changes.proofs.Lists.{all_less, if_some_map}
+use Rattle.genie_changes.proofs.Lists.{all_less}
 use Rattle.genie_changes.proofs.Matching.{sending_less, receiving_less, arrived_less, no_buffer}
 use Rattle.genie_changes.proofs.Ended.{left_state}
 use Rattle.genie_changes.proofs.Fitting.{page_has_bytes}

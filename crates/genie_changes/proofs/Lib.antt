@@ -31,3 +31,6 @@ pub mod RegionGone
 pub mod StateGone
 pub mod Paging
 pub mod Forgetting
+pub mod Disowned
+pub mod ProcessGone
+pub mod SettledEnds

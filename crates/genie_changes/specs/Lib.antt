@@ -11,3 +11,4 @@ pub mod Settled
 pub mod Ending
 pub mod Paged
 pub mod Removal
+pub mod Gone

@@ -4,6 +4,7 @@
 
 pub mod ends;
 pub mod given;
+pub mod gone;
 pub mod parts;
 pub mod regions;
 pub mod removal;
