@@ -5,7 +5,12 @@
 pub mod beginning;
 pub mod given;
 pub mod making;
+pub mod ends;
+pub mod given;
+pub mod gone;
 pub mod parts;
 pub mod regions;
+pub mod removal;
+pub mod settled;
 pub mod states;
 pub mod work;
