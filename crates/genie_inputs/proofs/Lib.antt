@@ -1,0 +1,4 @@
+mod Accepted
+mod Answered
+mod Buffered
+mod Copying
