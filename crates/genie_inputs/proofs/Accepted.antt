@@ -95,8 +95,14 @@ has_room law k c addr class good is whole accepted =
     subst (λ (x : Class). CanBegin k.config.page (available k.memory.frames) (call_in (outline k) c x addr)) is (law k (input_event c addr) good whole_call accepted)
 
 -- the address of a byte of a region
-page_high : (page : ℕ) → IsTrue (is_page_size page) → page ≤ 4096
+pub page_high : (page : ℕ) → IsTrue (is_page_size page) → page ≤ 4096
 page_high page e = grind (arith, nat_tests)
+
+pub page_some : (k : Kernel) → IsGood k → 0 < k.config.page
+page_some k good = some_page k.config.page good.fits.page
+  where
+    some_page : (page : ℕ) → IsTrue (is_page_size page) → 0 < page
+    some_page page e = grind (arith, nat_tests)
 
 area_end : (kind : Area) (start pages : ℕ) → IsIn kind start pages → start + pages ≤ 1024
 area_end App start pages h = omega (arith, h)

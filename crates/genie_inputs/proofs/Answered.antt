@@ -48,6 +48,13 @@ pool_blind : (s : ℕ → List ℕ) (p : Option PoolState) → IfSome p (λ (q :
 pool_blind s None = tt
 pool_blind s (Some q) = λ i d l. refl
 
+-- a memory shows what it shows
+pub shows_itself : (k : Kernel) (m : Memory) (slots : ℕ → List ℕ) → ShowsLent k m m slots
+shows_itself k m slots = record {
+  entries = refl;
+  needed = lent_suffice (owned_regions k.spaces.processes) k.transfers k.pools (seen m slots).kept_bytes (seen m slots).kept_bytes (record { lent = λ i d l j x n. refl; pooled = λ d. pool_blind (seen m slots).kept_bytes (entry k.pools d) });
+}
+
 module _ (laws : InputLaws) (k : Kernel) (from m : Memory) (t : Transfer) (e : Event) (good : IsGood k) (is_new : IsNew k t) (b : Begins k m t)
     (named : (n : ℕ) → names_weakly n t ≡ true → is_owned (owned_regions k.spaces.processes) n ≡ true)
     (shows : (slots : ℕ → List ℕ) → ShowsLent k from m slots)

@@ -50,12 +50,12 @@ use Rattle.genie_changes.specs.Beginning.{Begins, TakesFrames}
 use Rattle.genie_inputs.specs.Buffers.{LendsAt, LendsBuffer}
 use Rattle.genie_inputs.proofs.Answered.{ShowsLent}
 
-some_or_none : (n : ℕ) → (0 < n) ⊎ (n ≡ 0)
+pub some_or_none : (n : ℕ) → (0 < n) ⊎ (n ≡ 0)
 some_or_none zero = inr refl
 some_or_none (suc n) = inl (omega arith)
 
 -- a frame is among these, or it isn't
-any_times : (f : ℕ) (frames : List ℕ) → list_any (λ g. g == f) frames ≡ true → 0 < times frames f
+pub any_times : (f : ℕ) (frames : List ℕ) → list_any (λ g. g == f) frames ≡ true → 0 < times frames f
 any_times f [] e = absurd (cc)
 any_times f (g ∷ frames) e = elim (g == f) as (λ b. (g == f) ≡ b → (b || list_any (λ h. h == f) frames) ≡ true → 0 < times (g ∷ frames) f) [
   | true ↦ λ is h. let one : num (g == f) ≡ 1 = ap num is in omega (arith, times-cons g f frames, one)
@@ -79,15 +79,15 @@ loan_cons : (loan : Loan) (loans : List Loan) (k : LoanKind) (f : ℕ) → loan_
 loan_cons loan loans k f = sum_by-cons (λ (x : Loan). num (is_kind k x.kind && (x.frame == f))) loan loans
 
 -- input loans are on the frames of the plan, once each
-input_times : (f : ℕ) (loans : List InLoan) → loan_times (input_loans loans) kind.Input f ≡ times (input_frames loans) f
+pub input_times : (f : ℕ) (loans : List InLoan) → loan_times (input_loans loans) kind.Input f ≡ times (input_frames loans) f
 input_times f [] = refl
 input_times f (x ∷ loans) = let later = input_times f loans in omega (arith, loan_cons (input_loan x) (input_loans loans) kind.Input f, times-cons x.frame.0 f (input_frames loans), later)
 
-no_strong : (f : ℕ) (loans : List InLoan) → loan_times (input_loans loans) kind.Strong f ≡ 0
+pub no_strong : (f : ℕ) (loans : List InLoan) → loan_times (input_loans loans) kind.Strong f ≡ 0
 no_strong f [] = refl
 no_strong f (x ∷ loans) = let later = no_strong f loans in omega (arith, loan_cons (input_loan x) (input_loans loans) kind.Strong f, later)
 
-no_weak : (f : ℕ) (loans : List InLoan) → loan_times (input_loans loans) kind.Weak f ≡ 0
+pub no_weak : (f : ℕ) (loans : List InLoan) → loan_times (input_loans loans) kind.Weak f ≡ 0
 no_weak f [] = refl
 no_weak f (x ∷ loans) = let later = no_weak f loans in omega (arith, loan_cons (input_loan x) (input_loans loans) kind.Weak f, later)
 

@@ -4,7 +4,7 @@ ghost use Rattle.genie_inputs.specs.InputLaws.{InputLaws};
 use genie_changes::beginning::{
     new_ones_wait, parts_make_good, transfers_begin, weak_transfers_begin,
 };
-use genie_changes::given::numbers_differ;
+use genie_changes::given::{numbers_differ, regions_fit};
 use genie_changes::making::moves_join;
 use genie_changes::states::added_state;
 use genie_kernel::laws::{accepted_events_step, view_is_tidy};
@@ -16,6 +16,7 @@ pub(crate) fn input_laws()
 {
     calls_can_begin();
     numbers_differ();
+    regions_fit();
     view_is_tidy();
     accepted_events_step();
     added_state();

@@ -4,8 +4,11 @@
 mod buffer;
 pub mod call;
 pub mod copy;
+mod in_place;
 mod laws;
 mod posting;
 mod room;
+pub mod share;
+mod target;
 
 pub use crate::call::Call;

@@ -4,6 +4,7 @@ pub returns : goal.returns
 returns c = record {
   room = c.calls_can_begin.ensures;
   rise = c.numbers_differ.ensures.transfers;
+  small = c.regions_fit.ensures.regions;
   tidied = c.view_is_tidy.ensures;
   orderly = c.accepted_events_step.ensures.orderly;
   alone = c.accepted_events_step.ensures.alone;
