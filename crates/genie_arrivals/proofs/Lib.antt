@@ -1,0 +1,4 @@
+mod Owning
+mod Found
+mod Replying
+mod Alone

@@ -1,0 +1,4 @@
+//! The end of an input: `done` gives the process what has come of a datagram, and gives back what was lent.
+#![tactic(auto)]
+
+mod owned;
