@@ -22,6 +22,11 @@ pub mod Leaving
 pub mod LeftPages
 pub mod Ending
 pub mod Fitting
+<<<<<<< HEAD
 pub mod Starting
 pub mod InRegion
 pub mod Moved
+=======
+pub mod GivenBack
+pub mod EndedTransfer
+>>>>>>> refs/remotes/hG/work

@@ -10,3 +10,5 @@ pub mod Removing
 pub mod Beginning
 pub mod Lemmas
 pub mod Making
+pub mod Settled
+pub mod Ending

@@ -3,6 +3,7 @@
 #![tactic(auto)]
 
 pub mod beginning;
+pub mod ends;
 pub mod given;
 pub mod making;
 pub mod parts;
