@@ -22,11 +22,15 @@ pub mod Leaving
 pub mod LeftPages
 pub mod Ending
 pub mod Fitting
-<<<<<<< HEAD
 pub mod Starting
 pub mod InRegion
 pub mod Moved
-=======
 pub mod GivenBack
 pub mod EndedTransfer
->>>>>>> refs/remotes/hG/work
+pub mod Settling
+pub mod Lent
+pub mod Keeping
+pub mod RegionGone
+pub mod StateGone
+pub mod Paging
+pub mod Forgetting

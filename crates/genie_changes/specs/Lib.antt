@@ -12,3 +12,5 @@ pub mod Lemmas
 pub mod Making
 pub mod Settled
 pub mod Ending
+pub mod Paged
+pub mod Removal

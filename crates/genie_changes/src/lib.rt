@@ -8,5 +8,7 @@ pub mod given;
 pub mod making;
 pub mod parts;
 pub mod regions;
+pub mod removal;
+pub mod settled;
 pub mod states;
 pub mod work;
