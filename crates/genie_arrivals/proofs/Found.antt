@@ -1,6 +1,6 @@
 -- The transfer whose end is accepted.
 use Rattle.std.proofs.Common.{◌≡◌, ℕ, Bool, true, false, not, [], refl, sym, ap, subst, ◌∙◌}
-use Rattle.std.specs.Prelude.{Option, Some, None, find, is_some, IfSome}
+use Rattle.std.specs.Prelude.{Option, Some, None, find, is_some, IfSome, IsSome}
 use Rattle.std.specs.Option.{option_map}
 use Rattle.std.proofs.lemmas.Bool.{not-false}
 use Rattle.genie_base.specs.declared.event.Event.TheVariants.{Finish}
@@ -53,8 +53,12 @@ found_over k n t h e =
     let one : x.t ≡ t = cc in
     subst (λ (u : Transfer). is_ready u.phase ≡ true) one x.ready
 
-pub found_some : (k : Kernel) (n : ℕ) → refuse (outline k) (Finish n) ≡ None → is_some (find (has_number n) k.transfers) ≡ true
+pub found_some : (k : Kernel) (n : ℕ) → refuse (outline k) (Finish n) ≡ None → IsSome (find (has_number n) k.transfers)
 found_some k n h = ap is_some (is_over k n h).found
+
+-- of the case that was asked for
+pub found_case : (P : Transfer → Type 0) (k : Kernel) (n : ℕ) (t : Transfer) → IfSome (find (has_number n) k.transfers) P → find (has_number n) k.transfers ≡ Some t → P t
+found_case P k n t h e = subst (λ o. IfSome o P) e h
 
 pub record IsIdle (p : Phase) : Type 0 where
   pub unqueued : is_queued p ≡ false

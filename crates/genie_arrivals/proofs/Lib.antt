@@ -2,3 +2,5 @@ mod Owning
 mod Found
 mod Replying
 mod Alone
+mod Lent
+mod Quiet

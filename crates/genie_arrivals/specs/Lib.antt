@@ -1,3 +1,5 @@
 pub mod Replies
 pub mod Cases
+pub mod Backing
 pub mod Ends
+pub mod EndLaws
