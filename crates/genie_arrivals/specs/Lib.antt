@@ -1,3 +1,4 @@
+pub mod Owners
 pub mod Replies
 pub mod Cases
 pub mod Backing
