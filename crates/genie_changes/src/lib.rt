@@ -3,11 +3,10 @@
 #![tactic(auto)]
 
 pub mod beginning;
-pub mod given;
-pub mod making;
 pub mod ends;
 pub mod given;
 pub mod gone;
+pub mod making;
 pub mod parts;
 pub mod regions;
 pub mod removal;
