@@ -7,3 +7,11 @@ pub mod Working
 pub mod Regions
 pub mod Premises
 pub mod Removing
+pub mod Beginning
+pub mod Lemmas
+pub mod Making
+pub mod Settled
+pub mod Ending
+pub mod Paged
+pub mod Removal
+pub mod Gone

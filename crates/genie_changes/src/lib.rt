@@ -2,8 +2,14 @@
 //! state that a kernel stands for, and on the parts of what is true of it.
 #![tactic(auto)]
 
+pub mod beginning;
+pub mod ends;
 pub mod given;
+pub mod gone;
+pub mod making;
 pub mod parts;
 pub mod regions;
+pub mod removal;
+pub mod settled;
 pub mod states;
 pub mod work;
