@@ -9,3 +9,7 @@ mod Protecting
 mod Discarding
 mod Mapping
 mod Unmapping
+mod EndedFlat
+mod Exiting
+mod Disowning
+mod Exited

@@ -5,3 +5,5 @@ pub mod Marks
 pub mod Clearing
 pub mod RegionLaws
 pub mod ServingPaged
+pub mod Exiting
+pub mod ExitLaws

@@ -1,6 +1,7 @@
 //! The kernel's events on address spaces.
 #![tactic(auto)]
 
+pub mod exit;
 mod laws;
 pub mod map;
 mod number;
