@@ -8,5 +8,6 @@ pub mod Regions
 pub mod Premises
 pub mod Removing
 pub mod Beginning
+pub mod Guarding
 pub mod Lemmas
 pub mod Making

@@ -4,6 +4,7 @@
 
 pub mod beginning;
 pub mod given;
+pub mod guarding;
 pub mod making;
 pub mod parts;
 pub mod regions;

@@ -36,7 +36,7 @@ use Rattle.genie_outputs.specs.declared.call.Call.{Call}
 use Rattle.genie_outputs.specs.Answering.{IsAnswered, IsReady}
 use Rattle.genie_outputs.specs.Calls.{event_of, range_of, transfer_of, with_output}
 use Rattle.genie_outputs.specs.OutputLaws.{OutputLaws}
-use Rattle.genie_outputs.proofs.Lending.{new_output}
+use Rattle.genie_outputs.proofs.Loaned.{new_output}
 use Rattle.genie_outputs.proofs.Pages.{HasPages}
 use Rattle.genie_outputs.proofs.Shown.{Shows, strong_shows}
 use Rattle.genie_outputs.proofs.Stepping.{state_with, stays, steps_to}

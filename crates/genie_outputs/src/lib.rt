@@ -4,8 +4,11 @@
 pub mod begin;
 pub mod call;
 mod laws;
+pub mod lending;
 pub mod plain;
 pub mod reach;
 pub mod room;
+pub mod strong;
 
 pub use crate::plain::out_copied;
+pub use crate::strong::out_lent;
