@@ -7,3 +7,4 @@ pub mod Answered
 pub mod Copied
 pub mod Narrowed
 pub mod Lent
+pub mod Shared

@@ -1,3 +1,4 @@
 pub mod Calls
 pub mod Answering
 pub mod OutputLaws
+pub mod Sharing

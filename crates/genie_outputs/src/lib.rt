@@ -8,7 +8,9 @@ pub mod lending;
 pub mod plain;
 pub mod reach;
 pub mod room;
+pub mod sharing;
 pub mod strong;
 
 pub use crate::plain::out_copied;
+pub use crate::sharing::out_shared;
 pub use crate::strong::out_lent;
