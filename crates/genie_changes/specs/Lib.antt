@@ -11,3 +11,8 @@ pub mod Beginning
 pub mod Guarding
 pub mod Lemmas
 pub mod Making
+pub mod Settled
+pub mod Ending
+pub mod Paged
+pub mod Removal
+pub mod Gone

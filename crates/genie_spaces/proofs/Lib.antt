@@ -8,3 +8,4 @@ mod Forbidding
 mod Protecting
 mod Discarding
 mod Mapping
+mod Unmapping

@@ -44,7 +44,7 @@ pub record MayProtect (k : Kernel) (p g : ℕ) : Type 0 where
   pub alive : spaces.is_alive p k.spaces ≡ true
   pub some : find (starts_at g) (spaces.regions_of p k.spaces) ≢ None
 
-none_some : {X : Type 0} (o : Option X) → is_some o ≡ true → o ≢ None
+pub none_some : {X : Type 0} (o : Option X) → is_some o ≡ true → o ≢ None
 none_some o e none = let no = ap is_some none in cc
 
 pub may_protect : (k : Kernel) (p g : ℕ) (w : Bool) → refuse (outline k) (Protect p g w) ≡ None → MayProtect k p g

@@ -7,3 +7,4 @@ mod number;
 pub mod protect;
 mod room;
 pub mod spawn;
+pub mod unmap;
