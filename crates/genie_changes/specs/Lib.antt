@@ -11,6 +11,7 @@ pub mod Beginning
 pub mod Guarding
 pub mod Lemmas
 pub mod Making
+pub mod MovingOut
 pub mod Settled
 pub mod Ending
 pub mod Paged

@@ -8,6 +8,7 @@ pub mod given;
 pub mod gone;
 pub mod guarding;
 pub mod making;
+pub mod moving_out;
 pub mod parts;
 pub mod regions;
 pub mod removal;

@@ -8,3 +8,4 @@ pub mod Copied
 pub mod Narrowed
 pub mod Lent
 pub mod Shared
+pub mod Given

@@ -2,3 +2,4 @@ pub mod Calls
 pub mod Answering
 pub mod OutputLaws
 pub mod Sharing
+pub mod GivingUp

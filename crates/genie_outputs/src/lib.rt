@@ -10,7 +10,9 @@ pub mod reach;
 pub mod room;
 pub mod sharing;
 pub mod strong;
+pub mod weak_moving;
 
 pub use crate::plain::out_copied;
 pub use crate::sharing::out_shared;
 pub use crate::strong::out_lent;
+pub use crate::weak_moving::out_moved_out;
