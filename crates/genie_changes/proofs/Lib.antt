@@ -37,3 +37,4 @@ pub mod Forgetting
 pub mod Disowned
 pub mod ProcessGone
 pub mod SettledEnds
+pub mod MovedOut

@@ -8,8 +8,10 @@ pub mod Regions
 pub mod Premises
 pub mod Removing
 pub mod Beginning
+pub mod Guarding
 pub mod Lemmas
 pub mod Making
+pub mod MovingOut
 pub mod Settled
 pub mod Ending
 pub mod Paged

@@ -30,7 +30,7 @@ use Rattle.genie_changes.specs.States.{begun}
 use Rattle.genie_outputs.specs.declared.call.Call.{Call}
 use Rattle.genie_outputs.specs.Calls.{Reaches, event_of, place_in, transfer_of, with_output}
 use Rattle.genie_outputs.specs.OutputLaws.{OutputLaws}
-use Rattle.genie_outputs.proofs.Lending.{new_output, no_address}
+use Rattle.genie_outputs.proofs.Loaned.{new_output, no_address}
 use Rattle.genie_outputs.proofs.Reached.{reach_view, reached_owned}
 use Rattle.genie_outputs.proofs.Shown.{Shows}
 

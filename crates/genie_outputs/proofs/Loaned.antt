@@ -66,7 +66,7 @@ times_some (g ∷ frames) f l = elim (g == f) as (λ b. (g == f) ≡ b → (b ||
   | false ↦ λ other. let none : num (g == f) ≡ 0 = ap num other in times_some frames f (omega (arith, none, l, sum_by-cons (λ (h : ℕ). num (h == f)) g frames))
 ] refl
 
-mapped_at : {X Y : Type 0} (f : X → Y) (xs : List X) (i : ℕ) (d : X) → get_or (map f xs) i (f d) ≡ f (get_or xs i d)
+pub mapped_at : {X Y : Type 0} (f : X → Y) (xs : List X) (i : ℕ) (d : X) → get_or (map f xs) i (f d) ≡ f (get_or xs i d)
 mapped_at f [] i d = refl
 mapped_at f (x ∷ xs) zero d = refl
 mapped_at f (x ∷ xs) (suc i) d = mapped_at f xs i d
