@@ -1,7 +1,6 @@
 mod Keeping
 mod Numbering
 mod Marking
-mod Making
 mod Adding
 mod Spawning
 mod Forbidding

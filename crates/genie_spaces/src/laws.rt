@@ -6,8 +6,8 @@ use genie_changes::regions::{
 };
 use genie_kernel::laws::accepted_events_step;
 
-// What a region more, and one changed, leave of the state and of what is true of a kernel.
-pub(crate) fn region_laws()
+/// What a region more, and one changed, leave of the state and of what is true of a kernel.
+pub fn region_laws()
     ensures { RegionLaws }
 {
     accepted_events_step();

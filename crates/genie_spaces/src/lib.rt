@@ -1,9 +1,9 @@
 //! The kernel's events on address spaces.
 #![tactic(auto)]
 
-mod laws;
+pub mod laws;
 pub mod map;
-mod number;
+pub mod number;
 pub mod protect;
-mod room;
+pub mod room;
 pub mod spawn;

@@ -1,0 +1,2 @@
+-- Lemmas on new objects, for proofs here and above.
+pub mod Making
