@@ -25,3 +25,15 @@ pub mod Fitting
 pub mod Starting
 pub mod InRegion
 pub mod Moved
+pub mod GivenBack
+pub mod EndedTransfer
+pub mod Settling
+pub mod Lent
+pub mod Keeping
+pub mod RegionGone
+pub mod StateGone
+pub mod Paging
+pub mod Forgetting
+pub mod Disowned
+pub mod ProcessGone
+pub mod SettledEnds

@@ -10,3 +10,8 @@ pub mod Removing
 pub mod Beginning
 pub mod Lemmas
 pub mod Making
+pub mod Settled
+pub mod Ending
+pub mod Paged
+pub mod Removal
+pub mod Gone

@@ -3,9 +3,13 @@
 #![tactic(auto)]
 
 pub mod beginning;
+pub mod ends;
 pub mod given;
+pub mod gone;
 pub mod making;
 pub mod parts;
 pub mod regions;
+pub mod removal;
+pub mod settled;
 pub mod states;
 pub mod work;

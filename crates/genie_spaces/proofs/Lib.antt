@@ -3,7 +3,7 @@ mod Numbering
 mod Marking
 mod Adding
 mod Spawning
-mod Forbidding
 mod Protecting
 mod Discarding
 mod Mapping
+mod Unmapping

@@ -4,4 +4,5 @@ pub mod Permissions
 pub mod Marks
 pub mod Clearing
 pub mod RegionLaws
+pub mod ServingPaged
 pub mod Lemmas

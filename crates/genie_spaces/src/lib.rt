@@ -7,3 +7,4 @@ pub mod number;
 pub mod protect;
 pub mod room;
 pub mod spawn;
+pub mod unmap;

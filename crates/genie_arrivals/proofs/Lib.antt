@@ -1,0 +1,6 @@
+mod Owning
+mod Found
+mod Replying
+mod Alone
+mod Lent
+mod Quiet

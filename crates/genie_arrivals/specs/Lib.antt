@@ -1,0 +1,6 @@
+pub mod Owners
+pub mod Replies
+pub mod Cases
+pub mod Backing
+pub mod Ends
+pub mod EndLaws
