@@ -1,10 +1,8 @@
 mod Keeping
 mod Numbering
 mod Marking
-mod Making
 mod Adding
 mod Spawning
-mod Forbidding
 mod Protecting
 mod Discarding
 mod Mapping

@@ -7,3 +7,4 @@ pub mod RegionLaws
 pub mod ServingPaged
 pub mod Exiting
 pub mod ExitLaws
+pub mod Lemmas

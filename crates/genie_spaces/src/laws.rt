@@ -12,8 +12,8 @@ use genie_changes::removal::removed_regions;
 use genie_changes::settled::good_kernels_are_settled;
 use genie_kernel::laws::accepted_events_step;
 
-// What a region more, and one changed, leave of the state and of what is true of a kernel.
-pub(crate) fn region_laws()
+/// What a region more, and one changed, leave of the state and of what is true of a kernel.
+pub fn region_laws()
     ensures { RegionLaws }
 {
     accepted_events_step();

@@ -3,9 +3,10 @@
 
 pub mod exit;
 mod laws;
+pub mod laws;
 pub mod map;
-mod number;
+pub mod number;
 pub mod protect;
-mod room;
+pub mod room;
 pub mod spawn;
 pub mod unmap;

@@ -89,8 +89,8 @@ fn first_unmarked(marks: &[bool]) -> u32
     577
 }
 
-// The least number that no region and no orphan has, by one look at each region and each transfer.
-pub(crate) fn fresh_number(kernel: &Kernel) -> u32
+/// The least number that no region and no orphan has, by one look at each region and each transfer.
+pub fn fresh_number(kernel: &Kernel) -> u32
     requires { IsGood kernel.now }
     ensures { result ≡ fresh (outline kernel.now) }
 {
