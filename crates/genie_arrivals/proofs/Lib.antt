@@ -4,3 +4,5 @@ mod Replying
 mod Alone
 mod Lent
 mod Quiet
+mod Lively
+mod Moving

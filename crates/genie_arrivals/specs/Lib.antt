@@ -4,3 +4,4 @@ pub mod Cases
 pub mod Backing
 pub mod Ends
 pub mod EndLaws
+pub mod Live

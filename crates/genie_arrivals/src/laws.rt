@@ -1,8 +1,12 @@
 //! What the ends of inputs stand on.
 ghost use Rattle.genie_arrivals.specs.EndLaws.{EndLaws};
+ghost use Rattle.genie_arrivals.specs.Live.{ChangeLaws};
 
 use genie_changes::ends::{loans_are_given_back, transfers_end, transfers_leave};
 use genie_changes::parts::posted_changes;
+use genie_changes::regions::{
+    backed_regions, few_regions, guarded_regions, held_over_regions, region_states, removed_region,
+};
 use genie_changes::settled::good_kernels_are_settled;
 use genie_kernel::laws::accepted_events_step;
 
@@ -16,4 +20,16 @@ pub(crate) fn end_laws()
     loans_are_given_back();
     transfers_leave();
     posted_changes();
+}
+
+// What a region changed leaves of them.
+pub(crate) fn change_laws()
+    ensures { ChangeLaws }
+{
+    region_states();
+    few_regions();
+    backed_regions();
+    guarded_regions();
+    held_over_regions();
+    removed_region();
 }

@@ -3,5 +3,7 @@
 
 mod back;
 mod laws;
+mod live;
 mod owned;
 pub mod share;
+pub mod weak_move;
