@@ -5,4 +5,5 @@ mod Alone
 mod Lent
 mod Quiet
 mod Lively
+mod Reaching
 mod Moving

@@ -5,3 +5,4 @@ pub mod Backing
 pub mod Ends
 pub mod EndLaws
 pub mod Live
+pub mod Targets

@@ -5,5 +5,7 @@ mod back;
 mod laws;
 mod live;
 mod owned;
+mod room;
 pub mod share;
+mod target;
 pub mod weak_move;
