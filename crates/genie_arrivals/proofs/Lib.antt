@@ -6,4 +6,5 @@ mod Lent
 mod Quiet
 mod Lively
 mod Reaching
+mod Readying
 mod Moving

@@ -41,3 +41,8 @@ pub has_owned : (r : Region) (ps : List (Option (List Region))) (p : ℕ) (rs : 
 has_owned r [] p rs e h = absurd (cc)
 has_owned r (x ∷ ps) zero rs e h = has_left r (regions_of x) (owned_regions ps) (subst (λ (o : Option (List Region)). Has r (regions_of o)) (sym e) h)
 has_owned r (x ∷ ps) (suc p) rs e h = has_right r (regions_of x) (owned_regions ps) (has_owned r ps p rs e h)
+
+pub had_owned : (r : Region) (ps : List (Option (List Region))) (p : ℕ) → Has r (regions_of (entry ps p)) → Has r (owned_regions ps)
+had_owned r [] p h = absurd h
+had_owned r (x ∷ ps) zero h = has_left r (regions_of x) (owned_regions ps) h
+had_owned r (x ∷ ps) (suc p) h = has_right r (regions_of x) (owned_regions ps) (had_owned r ps p h)

@@ -6,3 +6,4 @@ pub mod Ends
 pub mod EndLaws
 pub mod Live
 pub mod Targets
+pub mod CopyLaws

@@ -1,5 +1,5 @@
 -- Where the bytes of a copy input are stored.
-use Rattle.std.specs.Prelude.{◌≡◌, ℕ, ◌-◌, ◌*◌, find, Option, None, Some, IfSome}
+use Rattle.std.specs.Prelude.{◌≡◌, ℕ, ◌-◌, ◌*◌, find, Option, None, Some, IfSome, IsSome}
 use Rattle.genie_base.specs.Regions.{write_reach}
 use Rattle.genie_object.specs.declared.objects.Range.{Range}
 use Rattle.genie_region.specs.declared.region.Region.{Region}
@@ -34,3 +34,7 @@ IsTargetOf k n range = IfSome (find (has_number n) k.transfers) (λ t. IsTarget 
 
 abbrev pub HasNoTargetOf : Kernel → ℕ → Type 0
 HasNoTargetOf k n = IfSome (find (has_number n) k.transfers) (HasNoTarget k)
+
+-- there is such a transfer
+abbrev pub IsPending : Kernel → ℕ → Type 0
+IsPending k n = IsSome (find (has_number n) k.transfers)

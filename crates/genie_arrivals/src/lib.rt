@@ -2,6 +2,7 @@
 #![tactic(auto)]
 
 mod back;
+pub mod copy;
 mod laws;
 mod live;
 mod owned;
