@@ -7,4 +7,5 @@ mod Quiet
 mod Lively
 mod Reaching
 mod Readying
+mod Joining
 mod Moving

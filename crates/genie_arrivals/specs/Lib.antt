@@ -7,3 +7,4 @@ pub mod EndLaws
 pub mod Live
 pub mod Targets
 pub mod CopyLaws
+pub mod Stored

@@ -8,5 +8,6 @@ mod live;
 mod owned;
 mod room;
 pub mod share;
+mod store;
 mod target;
 pub mod weak_move;
