@@ -1,0 +1,3 @@
+mod Parting
+mod Copied
+mod Looping
