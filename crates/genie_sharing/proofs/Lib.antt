@@ -1,3 +1,4 @@
 mod Parting
 mod Copied
 mod Looping
+mod EachRegion

@@ -65,7 +65,7 @@ pub other_object : (o p b : ℕ) → o ≢ p → is_object p o b ≡ false
 other_object o p b n = let f : (o == p) ≡ false = grind (arith, rules, n) in f
 
 -- an entry whose page no device held, and which names it still, is unheld after calls that keep loans and change no count
-unheld_kept : (old new : Memory) (o i : ℕ) → IsSound old → IsSound new → KeepsLoans old new → new.frames.counts ≡ old.frames.counts → (entry_at new.objects o i).page ≡ (entry_at old.objects o i).page → IsUnheld old o i → IsUnheld new o i
+pub unheld_kept : (old new : Memory) (o i : ℕ) → IsSound old → IsSound new → KeepsLoans old new → new.frames.counts ≡ old.frames.counts → (entry_at new.objects o i).page ≡ (entry_at old.objects o i).page → IsUnheld old o i → IsUnheld new o i
 unheld_kept old new o i s t keeps counts same free f is = ⊎_elim
     (λ (held : is_held (counts_at new.frames f) ≡ true).
     let q = framed_page new o i f is in

@@ -3,5 +3,7 @@
 
 pub mod copies;
 pub mod entries;
+pub mod regions;
 
 pub use crate::copies::{copy_entry, copy_object};
+pub use crate::regions::copy_regions;
