@@ -2,3 +2,4 @@ mod Parting
 mod Copied
 mod Looping
 mod EachRegion
+mod Dropping

@@ -1,13 +1,17 @@
 //! The objects of regions that are copied.
-ghost use Rattle.std.specs.Prelude.{◌≡◌, ◌+◌, ◌≤◌, ◌^◌, OnErr, OnOk};
+ghost use Rattle.std.specs.Prelude.{◌≡◌, ◌≢◌, ◌+◌, ◌≤◌, ◌^◌, [], All, OnErr, OnOk};
+ghost use Rattle.std.specs.List.{AllPairs, list_any};
 ghost use Rattle.genie_base.specs.Causes.{HasCause};
+ghost use Rattle.genie_hiding.specs.Discarding.{Discards};
 ghost use Rattle.genie_hiding.specs.Hidden.{objects_of};
 ghost use Rattle.genie_object.specs.Costs.{AreBelow, Spends};
+ghost use Rattle.genie_object.specs.Objects.{object_at};
 ghost use Rattle.genie_object.specs.Sound.{FitsHidden, IsSized, IsSound};
 ghost use Rattle.genie_sharing.specs.Copying.{Copies, StaysRoomy};
-ghost use Rattle.genie_sharing.specs.Regions.{AreCopies, CopiesRegions, is_copied};
+ghost use Rattle.genie_sharing.specs.Regions.{AreCopies, CopiesRegions, has_object, is_copied};
 
 use crate::copies::copy_object;
+use genie_fault::remove_object;
 use genie_hiding::HiddenCache;
 use genie_object::Memory;
 use genie_pageout::Clock;
@@ -50,4 +54,16 @@ pub fn copy_regions<S: Store>(
         }
     }
     Ok(())
+}
+
+/// Takes the objects of regions away, with their pages.
+pub fn drop_objects(memory: &mut Memory, regions: &Regions)
+    requires sound { IsSound memory.old }
+    requires there { All (λ r. object_at memory.old.objects r.object.0 ≢ []) regions.now }
+    requires differ { AllPairs (λ a b. a.object.0 ≢ b.object.0) regions.now }
+    ensures { Discards (λ o. list_any (has_object o) regions.now) memory.old memory.new }
+{
+    'regions: for i in 0..regions.len() {
+        remove_object(memory, regions.at(i).object);
+    }
 }
