@@ -8,3 +8,5 @@ mod Forbidding
 mod Protecting
 mod Discarding
 mod Mapping
+mod Beside
+mod Copying

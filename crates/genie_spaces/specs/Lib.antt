@@ -4,3 +4,4 @@ pub mod Permissions
 pub mod Marks
 pub mod Clearing
 pub mod RegionLaws
+pub mod Forking

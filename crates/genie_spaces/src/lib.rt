@@ -1,6 +1,7 @@
 //! The kernel's events on address spaces.
 #![tactic(auto)]
 
+mod copies;
 mod laws;
 pub mod map;
 mod number;
