@@ -1,5 +1,5 @@
 -- The regions of a child, made one after another.
-use Rattle.std.proofs.Common.{◌≡◌, ◌≢◌, ℕ, ◌+◌, ◌*◌, ◌<◌, ◌≤◌, zero, suc, Bool, true, false, not, cond, List, [], ◌∷◌, ◌++◌, refl, sym, ap, ap₂, subst, arith, rules, ◌∙◌, map, length, filter, find, take, set, get_or, get_or-set_other, get_or-set_same, replicate, inl, inr, ⊎_elim, eq-eqb, eqb-true}
+use Rattle.std.proofs.Common.{◌≡◌, ◌≢◌, ℕ, ◌+◌, ◌*◌, ◌<◌, ◌≤◌, zero, suc, Bool, true, false, not, cond, List, [], ◌∷◌, ◌++◌, refl, sym, ap, ap₂, subst, arith, rules, ◌∙◌, map, length, filter, find, take, set, get_or, get_or-set_other, get_or-set_same, length-set, replicate, inl, inr, ⊎_elim, eq-eqb, eqb-true}
 use Rattle.std.specs.Prelude.{Option, Some, None, is_some, nat_lt, ◌==◌, ◌||◌, ◌&&◌, count_by, flat_map, slice_get, unwrap_or}
 use Rattle.std.specs.List.{AllPairs, list_any, range_with_len}
 use Rattle.std.proofs.lemmas.Bool.{cases_Bool, cond_both, not-false, or_parts}
@@ -8,6 +8,8 @@ use Rattle.genie_base.specs.Regions.{AreInOrder, is_accessible, is_free}
 use Rattle.genie_base.specs.declared.event.Event.TheVariants.{Fork}
 use Rattle.genie_base.specs.declared.refusal.Refusal.TheVariants as cause
 use Rattle.genie_base.specs.declared.numbers.RegionId.{RegionId}
+use Rattle.genie_base.specs.Lemmas.Places.{count_by-set, num}
+use Rattle.genie_object.specs.Lemmas.Naming.{object_in}
 use Rattle.genie_hiding.specs.Hidden.{is_of}
 use Rattle.genie_object.specs.declared.memory.Memory.{Memory}
 use Rattle.genie_object.specs.declared.objects.Entry.{Entry}
@@ -155,8 +157,8 @@ module _ (laws : RegionLaws) (k : Kernel) (p child : ℕ) (rs : List Region) (ma
   in_ps = inside k child [] may.good may.place may.free
 
   -- at first the child has no region
-  pub copies_none : HasCopies k child rs 0 [] k.memory.objects
-  copies_none =
+  pub copies_none : ObjectsSuffice → HasCopies k child rs 0 [] k.memory.objects
+  copies_none law =
       let same = owned_spawned ps child may.free in
       record {
         sound = may.good.sound;
@@ -164,6 +166,7 @@ module _ (laws : RegionLaws) (k : Kernel) (p child : ℕ) (rs : List Region) (ma
         others = λ a e. refl;
         absent = λ a e. absurd (cc);
         number = omega arith;
+        spare = (let few = law k.memory.objects k.spaces.processes k.hidden may.good.backed may.good.few may.good.spaced.processes child may.place (let none = ap (λ (o : Option (List Region)). length (regions_of o)) may.free in omega (arith, none, may.unhidden)) in omega (arith, few));
         few = record { process = may.good.few.process; few = λ pid. subst (λ (l : List Region). length l + count_by (is_of pid) k.hidden ≤ 32) (sym (regions_spawned ps child pid may.free)) (may.good.few.few pid) };
         backed = subst (λ (l : List Region). AreBacked k.memory.objects (l ++ map hidden_region k.hidden)) (sym same) may.good.backed;
         named = λ n e. (λ j. Rattle.std.specs.Option.option_map Rattle.genie_changes.specs.Regions.object_in (find (has_id n) (same j)));
@@ -186,6 +189,7 @@ module _ (laws : RegionLaws) (k : Kernel) (p child : ℕ) (rs : List Region) (ma
           others = x.others;
           absent = x.absent;
           number = (let l = x.number in omega (arith, l));
+          spare = x.spare;
           few = x.few;
           backed = x.backed;
           named = x.named;
@@ -222,7 +226,7 @@ module _ (laws : RegionLaws) (k : Kernel) (p child : ℕ) (rs : List Region) (ma
     pub room_now : length rs ≤ 32 → length (regions_of (entry (set ps child (Some cs)) child)) + count_by (is_of child) k.hidden < 32
     room_now most = let size = ap (λ (o : Option (List Region)). length (regions_of o)) set_here in let l = few_copies most in omega (arith, size, l, may.unhidden)
 
-    module _ (id : RegionId) (more : List Region) (new : Memory) (most : length rs ≤ 32) (shared : is_forked r ≡ true) (is : id.0 ≡ fresh (outline h)) (y : AddsCopy id r cs more (with_entries k os) new) where
+    module _ (id : RegionId) (more : List Region) (new : Memory) (most : length rs ≤ 32) (shared : is_forked r ≡ true) (fits : count_by (λ o. not (is_absent o)) os < 512) (is : id.0 ≡ fresh (outline h)) (y : AddsCopy id r cs more (with_entries k os) new) where
       abbrev c : Region
       c = copy_region id y.object r
 
@@ -304,6 +308,16 @@ module _ (laws : RegionLaws) (k : Kernel) (p child : ℕ) (rs : List Region) (ma
       sources_more : (z : Region) → Has z added → IsSource rs z
       sources_more z m = ⊎_elim (λ (e : c ≡ z). subst (IsSource rs) e (record { region = r; found = found; pages = refl })) (x.sources z) (from_added z c cs m)
 
+      at_most : (b : Bool) → num b ≤ 1
+      at_most true = omega arith
+      at_most false = omega arith
+
+      spare_more : count_by (λ o. not (is_absent o)) news ≤ 512
+      spare_more =
+          let below : o < length news = object_in news o 0 (omega (arith, size, pages_some)) in
+          let more = count_by-set (λ (es : List Entry). not (is_absent es)) os o (replicate r.pages no_entry) [] (omega (arith, below, length-set os o (replicate r.pages no_entry))) in
+          omega (arith, more, fits, at_most (not (is_absent (replicate r.pages no_entry))))
+
       copies_made : HasCopies k child rs (n + 1) added news
       copies_made = record {
         sound = subst IsSound y.made y.sound;
@@ -311,6 +325,7 @@ module _ (laws : RegionLaws) (k : Kernel) (p child : ℕ) (rs : List Region) (ma
         others = λ a e. get_or-set_other os o a (replicate r.pages no_entry) [] (λ s. let bad : true ≡ false = sym (eq-eqb o a (sym s)) ∙ (parts a e).0 in cc) ∙ x.others a (parts a e).1;
         absent = absent_more;
         number = (let l = x.number in omega (arith, l, length_added c cs));
+        spare = spare_more;
         few = subst (λ qs. AreFew qs k.hidden) set_twice (laws.few_more (set ps child (Some cs)) k.hidden child c cs set_here (let l = few_copies most in omega (arith, l, may.unhidden)) x.few);
         backed = subst (λ qs. AreBacked news (all_regions qs k.hidden)) set_twice (laws.backed_more os news (set ps child (Some cs)) k.hidden child c cs set_here pages_some makes x.backed);
         named = λ m e. (λ j. Rattle.std.specs.Option.option_map Rattle.genie_changes.specs.Regions.object_in (find (has_id m) (owned_regions (sym set_twice j)))) ∙ laws.finds_more k.transfers (set ps child (Some cs)) child c cs set_here unnamed m e ∙ x.named m e;
@@ -349,4 +364,4 @@ object_room law k p child rs may n cs os x there most =
     let place : child < length k.spaces.processes = inside k child cs may.good may.place may.free in
     let size = ap (λ (o : Option (List Region)). length (regions_of o)) (get_or-set_same k.spaces.processes child (Some cs) None place) in
     let few = copies_few rs cs n x.number there most in
-    law os (set k.spaces.processes child (Some cs)) k.hidden x.backed x.few (Rattle.std.proofs.Common.length-set k.spaces.processes child (Some cs) ∙ may.good.spaced.processes) child may.place (omega (arith, size, few, may.unhidden))
+    law os (set k.spaces.processes child (Some cs)) k.hidden x.backed x.few (length-set k.spaces.processes child (Some cs) ∙ may.good.spaced.processes) child may.place (omega (arith, size, few, may.unhidden))

@@ -10,3 +10,4 @@ mod Discarding
 mod Mapping
 mod Beside
 mod Copying
+mod Ready

@@ -1,22 +1,24 @@
 -- A process that begins as a copy of another one.
-use Rattle.std.specs.Prelude.{◌≡◌, ℕ, ◌+◌, ◌<◌, ◌≤◌, Bool, true, false, List, [], length, map, filter, find, take, replicate, Some, slice_index_or, slice_set}
+use Rattle.std.specs.Prelude.{◌≡◌, ℕ, ◌+◌, ◌<◌, ◌≤◌, Bool, true, false, List, [], not, count_by, length, map, filter, find, take, replicate, Some, slice_index_or, slice_set}
 use Rattle.std.specs.List.{list_any}
 use Rattle.genie_base.specs.Regions.{is_accessible}
 use Rattle.genie_base.specs.declared.numbers.ObjectId.{ObjectId}
 use Rattle.genie_base.specs.declared.numbers.RegionId.{RegionId}
 use Rattle.genie_base.specs.declared.region.RegionState.TheVariants.{Live}
+use Rattle.genie_hiding.specs.Hidden.{objects_of}
 use Rattle.genie_object.specs.declared.memory.Memory.{Memory}
 use Rattle.genie_object.specs.declared.objects.Entry.{Entry}
-use Rattle.genie_object.specs.Objects.{entry_at, object_at, no_entry}
+use Rattle.genie_object.specs.Objects.{entry_at, is_absent, no_entry, object_at}
 use Rattle.genie_object.specs.Sound.{IsSound}
 use Rattle.genie_region.specs.declared.region.Region.{Region}
 use Rattle.genie_region.specs.Layouts.{starts_at}
-use Rattle.genie_space.specs.Spaces.{set_regions}
-use Rattle.genie_sharing.specs.Regions.{has_object}
+use Rattle.genie_space.specs.Spaces.{is_alive, regions_of, set_regions}
+use Rattle.genie_sharing.specs.Regions.{AreCopies, has_object}
 use Rattle.genie_model.specs.Lemmas.Lists.{Has}
 use Rattle.genie_model.specs.Space.{add_copies, spawned}
 use Rattle.genie_kernel.specs.declared.kernel.Kernel.{Kernel}
 use Rattle.genie_kernel.specs.Backed.{AreBacked, AreFew, all_regions}
+use Rattle.genie_kernel.specs.Good.{IsGood}
 use Rattle.genie_kernel.specs.Regions.{owned_regions, region_view}
 use Rattle.genie_kernel.specs.View.{Bytes, state_of}
 use Rattle.genie_changes.specs.Regions.{FindsNamed, with_added}
@@ -63,9 +65,17 @@ pub record HasCopies (k : Kernel) (child : ℕ) (regions : List Region) (n : ℕ
   pub others : (a : ℕ) → list_any (has_object a) copies ≡ false → object_at objects a ≡ object_at k.memory.objects a
   pub absent : (a : ℕ) → list_any (has_object a) copies ≡ true → object_at k.memory.objects a ≡ []
   pub number : length copies ≤ n
+  pub spare : count_by (λ o. not (is_absent o)) objects ≤ 512
   pub few : AreFew (slice_set k.spaces.processes child (Some copies)) k.hidden
   pub backed : AreBacked objects (all_regions (slice_set k.spaces.processes child (Some copies)) k.hidden)
   pub named : FindsNamed k.transfers (owned_regions k.spaces.processes) (owned_regions (slice_set k.spaces.processes child (Some copies)))
   pub ends : (c : Region) (j : ℕ) (d : Region) → Has c copies → n ≤ j → j < length regions → c.start + c.pages ≤ (slice_index_or regions j d).start
   pub sources : (c : Region) → Has c copies → IsSource regions c
   pub state : (b : Bytes) → ((c : Region) → Has c copies → ShowsSource b.seen.entry_bytes regions c) → state_of (with_child k child copies) b ≡ add_copies (spawned (state_of k b) child) child (map (region_view b.seen.entry_bytes) (filter is_forked (take n regions)))
+
+-- the pages of the parent's regions may be copied to the copies: the kernel with the child is good, and has few objects
+pub record CanCopyPages (k : Kernel) (p child : ℕ) (copies : List Region) : Type 0 where
+  pub alive : is_alive p k.spaces ≡ true
+  pub good : IsGood (with_child k child copies)
+  pub spare : count_by (λ o. not (is_absent o)) k.memory.objects ≤ 512
+  pub are : AreCopies k.memory (objects_of k.hidden) (regions_of p k.spaces) copies

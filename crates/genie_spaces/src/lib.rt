@@ -3,6 +3,7 @@
 
 mod copies;
 mod laws;
+mod fork;
 pub mod map;
 mod number;
 pub mod protect;
