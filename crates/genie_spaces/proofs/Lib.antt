@@ -11,3 +11,6 @@ mod EndedFlat
 mod Exiting
 mod Disowning
 mod Exited
+mod Beside
+mod Copying
+mod Ready

@@ -8,3 +8,4 @@ pub mod ServingPaged
 pub mod Exiting
 pub mod ExitLaws
 pub mod Lemmas
+pub mod Forking

@@ -4,6 +4,9 @@
 pub mod exit;
 mod laws;
 pub mod laws;
+mod copies;
+mod laws;
+mod fork;
 pub mod map;
 pub mod number;
 pub mod protect;
