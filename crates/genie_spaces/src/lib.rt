@@ -1,12 +1,10 @@
 //! The kernel's events on address spaces.
 #![tactic(auto)]
 
-pub mod exit;
-mod laws;
-pub mod laws;
 mod copies;
-mod laws;
+pub mod exit;
 mod fork;
+pub mod laws;
 pub mod map;
 pub mod number;
 pub mod protect;
