@@ -11,3 +11,5 @@ mod Mapping
 mod Beside
 mod Copying
 mod Ready
+mod Forked
+mod Ended

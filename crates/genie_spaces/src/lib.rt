@@ -2,8 +2,8 @@
 #![tactic(auto)]
 
 mod copies;
+pub mod fork;
 mod laws;
-mod fork;
 pub mod map;
 mod number;
 pub mod protect;
