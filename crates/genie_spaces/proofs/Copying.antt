@@ -1,5 +1,5 @@
 -- The regions of a child, made one after another.
-use Rattle.std.proofs.Common.{◌≡◌, ◌≢◌, ℕ, ◌+◌, ◌*◌, ◌<◌, ◌≤◌, zero, suc, Bool, true, false, not, cond, List, [], ◌∷◌, ◌++◌, refl, sym, ap, ap₂, subst, arith, rules, ◌∙◌, map, length, filter, find, take, set, get_or, get_or-set_other, get_or-set_same, length-set, replicate, inl, inr, ⊎_elim, eq-eqb, eqb-true}
+use Rattle.std.proofs.Common.{◌≡◌, ◌≢◌, ℕ, ◌+◌, ◌<◌, ◌≤◌, zero, suc, Bool, true, false, not, cond, List, [], ◌∷◌, ◌++◌, refl, sym, ap, ap₂, subst, arith, rules, ◌∙◌, map, length, filter, find, take, set, get_or, get_or-set_other, get_or-set_same, length-set, replicate, inl, inr, ⊎_elim, eq-eqb, eqb-true}
 use Rattle.std.specs.Prelude.{Option, Some, None, is_some, nat_lt, ◌==◌, ◌||◌, ◌&&◌, count_by, flat_map, slice_get, unwrap_or}
 use Rattle.std.specs.List.{AllPairs, list_any, range_with_len}
 use Rattle.std.proofs.lemmas.Bool.{cases_Bool, cond_both, not-false, or_parts}
