@@ -43,7 +43,7 @@ use Rattle.genie_spaces.specs.Forking.{AddsCopy, HasCopies, IsSource, ShowsSourc
 use Rattle.genie_spaces.specs.RegionLaws.{RegionLaws}
 use Rattle.genie_spaces.proofs.Beside.{any_added, free_behind, fresh_new, from_added, inside, length_added, to_added}
 use Rattle.genie_spaces.proofs.Keeping.{keeps_bytes}
-use Rattle.genie_spaces.proofs.Making.{entry_made}
+use Rattle.genie_spaces.specs.Lemmas.Making.{entry_made}
 use Rattle.genie_spaces.proofs.Numbering.{has_owned}
 
 -- what is known of a fork that isn't refused, once the child has no hidden regions

@@ -3,10 +3,8 @@
 
 mod copies;
 pub mod exit;
-mod fork;
-pub mod laws;
 pub mod fork;
-mod laws;
+pub mod laws;
 pub mod map;
 pub mod number;
 pub mod protect;
