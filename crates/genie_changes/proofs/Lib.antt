@@ -22,6 +22,9 @@ pub mod Leaving
 pub mod LeftPages
 pub mod Ending
 pub mod Fitting
+pub mod Starting
+pub mod InRegion
+pub mod Moved
 pub mod GivenBack
 pub mod EndedTransfer
 pub mod Settling
@@ -31,6 +34,10 @@ pub mod RegionGone
 pub mod StateGone
 pub mod Paging
 pub mod Forgetting
+pub mod Disowned
+pub mod ProcessGone
+pub mod SettledEnds
+pub mod MovedOut
 pub mod RegionTurned
 pub mod UnnamedGone
 pub mod BuffersAlike

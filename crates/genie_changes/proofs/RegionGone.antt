@@ -131,7 +131,7 @@ has_filtered p x (y ∷ ys) h = cond_both (p y) (y ∷ filter p ys) (filter p ys
     (λ t i. ⊎_elim (λ (same : y ≡ x). (inl same, ap p (sym same) ∙ t)) (λ later. let rest = has_filtered p x ys later in (inr rest.0, rest.1)) i)
     (λ f i. let rest = has_filtered p x ys i in (inr rest.0, rest.1)) h
 
-some_below : {X : Type 0} (xs : List (Option X)) (p : ℕ) (x : X) → entry xs p ≡ Some x → p < length xs
+pub some_below : {X : Type 0} (xs : List (Option X)) (p : ℕ) (x : X) → entry xs p ≡ Some x → p < length xs
 some_below xs p x e = in_range xs p None (λ none. let bad : None ≡ Some x = sym none ∙ e in absurd (cc))
 
 place_size : (m : Memory) (slots : ℕ → List ℕ) (p : ℕ) (q : Place) → IsSound m → HavePages m slots → (page_at m.pages.pages p).place ≡ q → length (place_bytes m.frames slots q) ≡ m.frames.page

@@ -1,0 +1,11 @@
+mod Owning
+mod Found
+mod Replying
+mod Alone
+mod Lent
+mod Quiet
+mod Lively
+mod Reaching
+mod Readying
+mod Joining
+mod Moving

@@ -1,0 +1,12 @@
+mod Accepted
+mod Answered
+mod Buffered
+mod Copying
+mod Enlarged
+mod Holding
+mod Lending
+mod Placing
+mod Readied
+mod Sharing
+mod Targeting
+mod Weakly

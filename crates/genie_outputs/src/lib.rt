@@ -1,0 +1,18 @@
+//! The output call of the kernel: bytes of a process's memory wait to be sent by a device.
+#![tactic(auto)]
+
+pub mod begin;
+pub mod call;
+mod laws;
+pub mod lending;
+pub mod plain;
+pub mod reach;
+pub mod room;
+pub mod sharing;
+pub mod strong;
+pub mod weak_moving;
+
+pub use crate::plain::out_copied;
+pub use crate::sharing::out_shared;
+pub use crate::strong::out_lent;
+pub use crate::weak_moving::out_moved_out;
