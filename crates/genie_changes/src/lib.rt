@@ -11,6 +11,7 @@ pub mod making;
 pub mod moving_out;
 pub mod parts;
 pub mod regions;
+pub mod released;
 pub mod removal;
 pub mod settled;
 pub mod states;
