@@ -4,3 +4,8 @@ mod Replying
 mod Alone
 mod Lent
 mod Quiet
+mod Lively
+mod Reaching
+mod Readying
+mod Joining
+mod Moving

@@ -4,3 +4,7 @@ pub mod Cases
 pub mod Backing
 pub mod Ends
 pub mod EndLaws
+pub mod Live
+pub mod Targets
+pub mod CopyLaws
+pub mod Stored

@@ -2,6 +2,12 @@
 #![tactic(auto)]
 
 mod back;
+pub mod copy;
 mod laws;
+mod live;
 mod owned;
+mod room;
 pub mod share;
+mod store;
+mod target;
+pub mod weak_move;

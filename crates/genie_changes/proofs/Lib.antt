@@ -38,3 +38,5 @@ pub mod Disowned
 pub mod ProcessGone
 pub mod SettledEnds
 pub mod MovedOut
+pub mod RegionTurned
+pub mod UnnamedGone

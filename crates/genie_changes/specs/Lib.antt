@@ -17,3 +17,5 @@ pub mod Ending
 pub mod Paged
 pub mod Removal
 pub mod Gone
+pub mod Turned
+pub mod Unnamed

@@ -14,4 +14,6 @@ pub mod regions;
 pub mod removal;
 pub mod settled;
 pub mod states;
+pub mod turned;
+pub mod unnamed;
 pub mod work;

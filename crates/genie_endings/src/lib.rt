@@ -6,3 +6,4 @@ pub mod cancel;
 pub mod give_back;
 mod laws;
 pub mod output;
+mod region;

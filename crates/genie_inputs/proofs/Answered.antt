@@ -21,19 +21,21 @@ use Rattle.genie_kernel.specs.declared.kernel.Kernel.{Kernel}
 use Rattle.genie_kernel.specs.declared.transfer.Transfer.{Transfer}
 use Rattle.genie_kernel.specs.Calls.{names_weakly}
 use Rattle.genie_kernel.specs.Good.{IsGood}
+use Rattle.genie_kernel.specs.Kept.{Kept}
 use Rattle.genie_kernel.specs.Orphans.{is_owned}
 use Rattle.genie_kernel.specs.Regions.{owned_regions}
 use Rattle.genie_kernel.specs.Same.{SameNeeded, ShowSame}
-use Rattle.genie_kernel.specs.Steps.{Steps, StepsTold, bytes_over}
+use Rattle.genie_kernel.specs.Steps.{Steps, StepsAlone, StepsTold, bytes_over}
 use Rattle.genie_kernel.specs.View.{Bytes, state_of, outline, no_bytes, view}
 use Rattle.genie_kernel.specs.Lemmas.Alike.{lent_suffice}
 use Rattle.genie_changes.specs.States.{begun}
-use Rattle.genie_changes.specs.Beginning.{Begins, IsNew, with_call}
+use Rattle.genie_changes.specs.Beginning.{Begins, HasParts, IsNew, with_call}
 use Rattle.genie_inputs.specs.declared.call.Call.{Call}
 use Rattle.genie_inputs.specs.Calls.{input_event}
 use Rattle.genie_inputs.specs.InputLaws.{InputLaws}
-use Rattle.genie_changes.specs.Making.{IsMoved}
 use Rattle.genie_inputs.specs.Posting.{IsAnswered}
+use Rattle.genie_inputs.specs.Ready.{IsReady}
+use Rattle.genie_inputs.proofs.Readied.{kept_on}
 
 -- what is seen is as before, but for frames that no earlier transfer and no pool has
 pub record ShowsLent (k : Kernel) (old new : Memory) (slots : ℕ → List ℕ) : Type 0 where
@@ -48,11 +50,26 @@ pool_blind : (s : ℕ → List ℕ) (p : Option PoolState) → IfSome p (λ (q :
 pool_blind s None = tt
 pool_blind s (Some q) = λ i d l. refl
 
+-- nothing is seen to change by itself
+pub same_needed : (k : Kernel) (s : ℕ → List ℕ) → SameNeeded (owned_regions k.spaces.processes) k.transfers k.pools s s
+same_needed k s = lent_suffice (owned_regions k.spaces.processes) k.transfers k.pools s s (record { lent = λ i d l j x n. refl; pooled = λ d. pool_blind s (entry k.pools d) })
+
 -- a memory shows what it shows
 pub shows_itself : (k : Kernel) (m : Memory) (slots : ℕ → List ℕ) → ShowsLent k m m slots
 shows_itself k m slots = record {
   entries = refl;
-  needed = lent_suffice (owned_regions k.spaces.processes) k.transfers k.pools (seen m slots).kept_bytes (seen m slots).kept_bytes (record { lent = λ i d l j x n. refl; pooled = λ d. pool_blind (seen m slots).kept_bytes (entry k.pools d) });
+  needed = same_needed k (seen m slots).kept_bytes;
+}
+
+-- the event is one step, where room was made first without a change of what is told
+pub call_answers : InputLaws → (old k after : Kernel) (from : Memory) (e : Event) (u v w : StoreView) → IsTrue (is_whole e) → refuse (outline k) e ≡ None → IsReady old k u v → ((host : HostView) → view (record k { memory = from }) host w ≡ view k host v) → HasParts after → after.config ≡ k.config → Kept k after → IsSized after.memory w → Steps (outline k) e (outline after) (reply.Id k.next) → StepsAlone (record k { memory = from }) e after (reply.Id k.next)
+    → IsAnswered old after u w e (reply.Id k.next)
+call_answers laws old k after from e u v w whole accepted ready told parts config kept sized blind alone = record {
+  good = laws.made after parts (laws.orderly (outline k) (outline after) e (reply.Id k.next) whole accepted blind ready.good.orderly);
+  sized = sized;
+  kept = kept_on old k after (ap (λ (x : Kernel). x.transfers) ready.only) (ap (λ (x : Kernel). x.pools) ready.only) ready.kept kept;
+  config = config ∙ ap (λ (x : Kernel). x.config) ready.only;
+  step = λ host. subst (λ s. StepsTold s e (view after host w) (reply.Id k.next)) (told host ∙ ready.told host) (laws.alone (record k { memory = from }) after e (reply.Id k.next) host w accepted config alone);
 }
 
 module _ (laws : InputLaws) (k : Kernel) (from m : Memory) (t : Transfer) (e : Event) (good : IsGood k) (is_new : IsNew k t) (b : Begins k m t)
@@ -71,28 +88,16 @@ module _ (laws : InputLaws) (k : Kernel) (from m : Memory) (t : Transfer) (e : E
           reply_is = sym (ap (λ (o : Outcome). o.1) (posts old new.seen.kept_bytes));
         }
 
-    pub posted_good : IsGood after
-    posted_good =
+    -- the event is one step
+    pub posted_answers : (old : Kernel) (u v w : StoreView) → IsReady old k u v → ((host : HostView) → view (record k { memory = from }) host w ≡ view k host v) → IsSized m w → IsAnswered old after u w e (reply.Id k.next)
+    posted_answers old u v w ready told sized =
         let blind = no_bytes k.config.page in
-        let same = lent_suffice (owned_regions k.spaces.processes) k.transfers k.pools blind.seen.kept_bytes blind.seen.kept_bytes (record { lent = λ i d l j x n. refl; pooled = λ d. pool_blind blind.seen.kept_bytes (entry k.pools d) }) in
-        laws.made after (laws.parts k m t good is_new b) (laws.orderly (outline k) (outline after) e (reply.Id k.next) whole accepted (steps blind blind refl refl refl same) good.orderly)
-
-    pub posted_told : (host : HostView) (w : StoreView) → StepsTold (view (record k { memory = from }) host w) e (view after host w) (reply.Id k.next)
-    posted_told host w = laws.alone (record k { memory = from }) after e (reply.Id k.next) host w accepted refl
+        call_answers laws old k after from e u v w whole accepted ready told (laws.parts k m t good is_new b) refl (laws.kept k m t good b) sized
+        (steps blind blind refl refl refl (same_needed k blind.seen.kept_bytes))
         (λ slots rests sents. let s = shows slots in steps (bytes_over from slots rests sents) (bytes_over m slots rests sents) s.entries refl refl s.needed)
 
-    -- the event is one step, where pages moved first without a change of what is seen
-    pub posted_answers : (old : Kernel) (u v w : StoreView) → IsMoved old k u v → ((host : HostView) → view (record k { memory = from }) host w ≡ view k host v) → IsSized m w → IsAnswered old after u w e (reply.Id k.next)
-    posted_answers old u v w moved told sized = record {
-      good = posted_good;
-      sized = sized;
-      kept = laws.since old k after u v moved (laws.kept k m t good b);
-      config = ap (λ (x : Kernel). x.config) moved.only;
-      step = λ host. subst (λ s. StepsTold s e (view after host w) (reply.Id k.next)) (told host ∙ moved.told host) (posted_told host w);
-    }
-
 -- a failure of the store changes nothing that is told
-pub fails : InputLaws → (old new : Kernel) (c : Call) (addr : Option ℕ) (v w : StoreView) → refuse (outline old) (input_event c addr) ≡ None → IsMoved old new v w → IsAnswered old new v w (input_event c addr) reply.StoreFault
+pub fails : InputLaws → (old new : Kernel) (c : Call) (addr : Option ℕ) (v w : StoreView) → refuse (outline old) (input_event c addr) ≡ None → IsReady old new v w → IsAnswered old new v w (input_event c addr) reply.StoreFault
 fails laws old new c addr v w accepted moved = record {
   good = moved.good;
   sized = moved.sized;

@@ -30,6 +30,7 @@ use Rattle.genie_inputs.specs.Calls.{input_event, transfer_of}
 use Rattle.genie_inputs.specs.InputLaws.{InputLaws}
 use Rattle.genie_changes.specs.Making.{with_memory}
 use Rattle.genie_inputs.specs.Posting.{CanPost, IsAnswered, with_input}
+use Rattle.genie_inputs.proofs.Readied.{ready_moved}
 use Rattle.genie_inputs.proofs.Accepted.{can_post, has_room, may_input}
 use Rattle.genie_inputs.proofs.Answered.{OnlyPosts, posted_answers}
 use Rattle.genie_inputs.proofs.Buffered.{buffer_begins, buffer_shows}
@@ -87,7 +88,7 @@ copy_answers laws old mid new c a loans v w good is accepted lends posts =
     (λ n named. absurd (strong_names n t strong named))
     (buffer_shows k mid.memory t a lends.moved.good refl strong begins lends.buffer)
     (copy_whole c a is) accepted (copy_posts k c a loans is)
-    old v w w lends.moved (λ host. refl)
+    old v w w (ready_moved old k v w lends.moved) (λ host. refl)
     (record { count = lends.moved.sized.count ∙ sym (ap length lends.buffer.slots); page = lends.moved.sized.page ∙ sym lends.buffer.fresh.page }))
 
 -- there is room for the buffer

@@ -2,7 +2,11 @@ mod Accepted
 mod Answered
 mod Buffered
 mod Copying
+mod Enlarged
+mod Holding
 mod Lending
+mod Placing
+mod Readied
 mod Sharing
 mod Targeting
 mod Weakly

@@ -49,6 +49,7 @@ use Rattle.genie_inputs.specs.InputLaws.{InputLaws}
 use Rattle.genie_inputs.specs.Places.{LendsPages, LendsPlan, MayFill}
 use Rattle.genie_inputs.specs.Posting.{CanPost, IsAnswered, with_input}
 use Rattle.genie_inputs.specs.Targets.{Reaches}
+use Rattle.genie_inputs.proofs.Readied.{ready_moved}
 use Rattle.genie_inputs.proofs.Accepted.{can_post, has_room, may_input, page_high, page_some}
 use Rattle.genie_inputs.proofs.Answered.{OnlyPosts, posted_answers, shows_itself}
 use Rattle.genie_inputs.proofs.Targeting.{backed_long, pages_within, reach_view, reached_owned}
@@ -116,7 +117,7 @@ share_answers wires laws old mid new c a r off basic loans v w good is basic_is 
         (weak_named wires laws.weak y mid.memory c (record { 0 = old.next }) r off p basic lends.moved.good owned x.writable weak uncopied basic_is plan may.device)
         (λ slots. shows_itself y mid.memory slots)
         (share_whole c a is) accepted (share_posts y c a r off (ways.Inward p) is (record { found = x.found; writable = x.writable; place = x.place; inside = x.inside }))
-        old v lends.middle w lends.moved (same_view y mid.memory lends.middle w lends.shows) lends.sized)
+        old v lends.middle w (ready_moved old y v lends.middle lends.moved) (same_view y mid.memory lends.middle w lends.shows) lends.sized)
 
 -- there is room for the loans
 pub share_room : CallsCanBegin → (k : Kernel) (c : Call) (a : ℕ) (r : Region) (off : ℕ) → IsGood k → class_of c.sem ≡ Share → refuse (outline k) (input_event c (Some a)) ≡ None → Reaches k c a r off → (span k.config.page off c.len ≤ 65) × (span k.config.page off c.len ≤ available k.memory.frames)

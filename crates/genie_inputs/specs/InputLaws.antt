@@ -5,7 +5,6 @@ use Rattle.genie_changes.specs.Removing.{GoodRegionsFit, GoodTransfersRise}
 use Rattle.genie_changes.specs.States.{AddedState}
 use Rattle.genie_room.specs.Frames.{CallsCanBegin}
 use Rattle.genie_changes.specs.Beginning.{PartsMakeGood, NewWaitsBehind, BegunHasParts, BegunIsKept, WeakBegins}
-use Rattle.genie_changes.specs.Making.{KeptSinceMoved}
 
 -- what a transfer more leaves of the state and of what is true of a kernel
 pub record InputLaws : Type 0 where
@@ -21,4 +20,3 @@ pub record InputLaws : Type 0 where
   pub parts : BegunHasParts
   pub kept : BegunIsKept
   pub weak : WeakBegins
-  pub since : KeptSinceMoved

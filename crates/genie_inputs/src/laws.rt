@@ -5,7 +5,6 @@ use genie_changes::beginning::{
     new_ones_wait, parts_make_good, transfers_begin, weak_transfers_begin,
 };
 use genie_changes::given::{numbers_differ, regions_fit};
-use genie_changes::making::moves_join;
 use genie_changes::states::added_state;
 use genie_kernel::laws::{accepted_events_step, view_is_tidy};
 use genie_room::laws::calls_can_begin;
@@ -24,5 +23,4 @@ pub(crate) fn input_laws()
     new_ones_wait();
     transfers_begin();
     weak_transfers_begin();
-    moves_join();
 }

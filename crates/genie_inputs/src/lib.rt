@@ -4,8 +4,10 @@
 mod buffer;
 pub mod call;
 pub mod copy;
+pub mod hold;
 mod in_place;
 mod laws;
+mod place;
 mod posting;
 mod room;
 pub mod share;

@@ -36,7 +36,7 @@ use Rattle.genie_spaces.specs.Permissions.{Guards}
 use Rattle.genie_spaces.specs.RegionLaws.{RegionLaws}
 use Rattle.genie_spaces.specs.Serving.{IsServed}
 use Rattle.genie_spaces.specs.Tables.{moded, with_mode, with_objects}
-use Rattle.genie_spaces.proofs.Forbidding.{narrowed_keeps, narrowed_seen, narrowed_sound, narrowed_touches, with_entries}
+use Rattle.genie_spaces.specs.Lemmas.Forbidding.{narrowed_keeps, narrowed_seen, narrowed_sound, narrowed_touches, with_entries}
 use Rattle.genie_spaces.proofs.Keeping.{keeps_bytes}
 use Rattle.genie_spaces.proofs.Numbering.{has_owned, others_none, same_region}
 

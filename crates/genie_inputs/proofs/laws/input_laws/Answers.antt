@@ -14,5 +14,4 @@ returns c = record {
   parts = c.transfers_begin.ensures.parts;
   kept = c.transfers_begin.ensures.kept;
   weak = c.weak_transfers_begin.ensures;
-  since = c.moves_join.ensures.kept;
 }

@@ -2,6 +2,7 @@ use Rattle.std.proofs.Common.{◌∙◌, ap}
 use Rattle.std.specs.Prelude.{Some, not}
 use Rattle.genie_inputs.specs.Posting.{with_input}
 use Rattle.genie_inputs.proofs.Answered.{fails}
+use Rattle.genie_inputs.proofs.Readied.{ready_moved}
 use Rattle.genie_inputs.proofs.Sharing.{share_answers, share_can_post, share_fills, share_fits, share_room, share_within}
 use Rattle.genie_inputs.proofs.share.share.Goals as goal
 
@@ -27,4 +28,4 @@ pub returns-in-Ok-clause-answered : goal.returns-in-Ok-clause-answered
 returns-in-Ok-clause-answered g c = share_answers c.wires_show_what_was_seen.ensures.on c.input_laws.ensures c.args.kernel.now c.lend_in_place.new.kernel c.post.new.kernel c.args.call c.args.addr c.find_target-off.result.0 c.find_target-off.result.1 _ c.in-Ok.loans (g.S.Store.view c.args.store.now) (g.S.Store.view c.lend_in_place.new.store) c.requires.good c.requires.class (ap not c.emulated-basic.ensures) c.requires.accepted c.find_target-off.ensures c.in-Ok.ensures.lends (c.post.ensures ∙ ap (with_input c.lend_in_place.new.kernel) c.transfer.ensures)
 
 pub returns-in-Err-clause-answered : goal.returns-in-Err-clause-answered
-returns-in-Err-clause-answered g c = fails c.input_laws.ensures c.args.kernel.now c.lend_in_place.new.kernel c.args.call (Some c.args.addr) (g.S.Store.view c.args.store.now) (g.S.Store.view c.lend_in_place.new.store) c.requires.accepted c.in-Err.ensures.moved
+returns-in-Err-clause-answered g c = fails c.input_laws.ensures c.args.kernel.now c.lend_in_place.new.kernel c.args.call (Some c.args.addr) (g.S.Store.view c.args.store.now) (g.S.Store.view c.lend_in_place.new.store) c.requires.accepted (ready_moved c.args.kernel.now c.lend_in_place.new.kernel (g.S.Store.view c.args.store.now) (g.S.Store.view c.lend_in_place.new.store) c.in-Err.ensures.moved)
