@@ -109,7 +109,7 @@ first_number : (a b : ℕ) (xs : List ℕ) → a ∷ xs ≡ b ∷ [] → (a ≡ 
 first_number a b xs e = (cc, cc)
 
 -- where a frame is its alone, no other transfer has it
-others_unheld : (n f : ℕ) (ts : List Transfer) (t : Transfer) → find (has_number n) ts ≡ Some t → has_frame f t ≡ true → holders ts f ≡ n ∷ [] → (u : Transfer) → Has u (without (has_number n) ts) → has_frame f u ≡ false
+pub others_unheld : (n f : ℕ) (ts : List Transfer) (t : Transfer) → find (has_number n) ts ≡ Some t → has_frame f t ≡ true → holders ts f ≡ n ∷ [] → (u : Transfer) → Has u (without (has_number n) ts) → has_frame f u ≡ false
 others_unheld n f [] t found on is u h = absurd h
 others_unheld n f (x ∷ ts) t found on is u h = elim (has_number n x) as (λ b. has_number n x ≡ b → cond b (Some x) (find (has_number n) ts) ≡ Some t → Has u (cond b ts (x ∷ without (has_number n) ts)) → has_frame f u ≡ false) [
   | true ↦ λ e here i.
@@ -143,7 +143,7 @@ owned_there f j [] e = absurd (cc)
 owned_there zero j (x ∷ owners) e = omega arith
 owned_there (suc f) j (x ∷ owners) e = omega (arith, owned_there f j owners e)
 
-frame_there : (frames : List ℕ) (j : ℕ) → j < length frames → list_any (λ g. g == get_or frames j 0) frames ≡ true
+pub frame_there : (frames : List ℕ) (j : ℕ) → j < length frames → list_any (λ g. g == get_or frames j 0) frames ≡ true
 frame_there frames j l = has_any (λ g. g == get_or frames j 0) (get_or frames j 0) frames (has_at frames j 0 l) (eq-eqb (get_or frames j 0) (get_or frames j 0) refl)
 
 module _ (k : Kernel) (n : ℕ) (t : Transfer) (g : IsGood k) (found : find (has_number n) k.transfers ≡ Some t) (strong : is_strong_call t ≡ true) (loans : List InLoan) (is_loans : loans_of t.loans ≡ input_loans loans) (is_frames : frames_of t.loans ≡ input_frames loans) (own : AreItsOwn k.memory.frames.owners n (frames_of t.loans)) where

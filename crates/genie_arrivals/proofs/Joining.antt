@@ -48,7 +48,7 @@ on_frame : (f : ℕ) (loans : List InLoan) → count_by (λ (loan : Loan). loan.
 on_frame f [] = refl
 on_frame f (x ∷ loans) = omega (arith, on_frame f loans, sum_by-cons (λ (l : Loan). num (l.frame == f)) (input_loan x) (input_loans loans), sum_by-cons (λ (h : ℕ). num (h == f)) x.frame.0 (input_frames loans))
 
-less_by : (f : ℕ) (loans : List InLoan) (c : Counts) (n : ℕ) → times (input_frames loans) f ≡ n → less (input_loans loans) f c ≡ record c { input = c.input - n }
+pub less_by : (f : ℕ) (loans : List InLoan) (c : Counts) (n : ℕ) → times (input_frames loans) f ≡ n → less (input_loans loans) f c ≡ record c { input = c.input - n }
 less_by f loans c n e =
     let s : c.strong - loan_times (input_loans loans) kind.Strong f ≡ c.strong = omega (arith, none_strong f loans) in
     let w : c.weak - loan_times (input_loans loans) kind.Weak f ≡ c.weak = omega (arith, none_weak f loans) in
