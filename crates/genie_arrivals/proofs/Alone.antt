@@ -1,12 +1,10 @@
 -- The frames of a strong input's own buffer carry its loans alone.
-use Rattle.std.proofs.Common.{◌≡◌, ◌≢◌, ℕ, ◌+◌, ◌<◌, ◌≤◌, zero, suc, Bool, true, false, not, cond, List, [], ◌∷◌, refl, sym, ap, ap₂, subst, arith, rules, ◌∙◌, length, map, get_or, ⊎_elim, inl, inr, eq-eqb}
-use Rattle.std.specs.Prelude.{Option, Some, None, All, find, filter, sum_by, count_by, ◌==◌, ◌&&◌, ◌||◌, if◌then◌else◌}
+use Rattle.std.proofs.Common.{◌≡◌, ℕ, ◌+◌, ◌<◌, ◌≤◌, zero, suc, Bool, true, false, not, cond, List, [], ◌∷◌, refl, sym, ap, subst, arith, rules, ◌∙◌, length, map, get_or, ⊎_elim, inl, inr, eq-eqb}
+use Rattle.std.specs.Prelude.{Option, Some, find, filter, sum_by, ◌==◌, ◌&&◌, ◌||◌, if◌then◌else◌}
 use Rattle.std.specs.List.{list_any}
-use Rattle.std.proofs.lemmas.Bool.{cases_Bool}
 use Rattle.std.proofs.lemmas.List.Sums.{sum_by-cons}
 use Rattle.genie_base.specs.Lemmas.Places.{num}
 use Rattle.genie_base.specs.Transfers.{is_emulated}
-use Rattle.genie_frame.specs.declared.frame.Counts.{Counts}
 use Rattle.genie_frame.specs.declared.frame.InLoan.{InLoan}
 use Rattle.genie_frame.specs.declared.frame.OutLoan.{OutLoan}
 use Rattle.genie_frame.specs.declared.frame.Owner.{Owner}
@@ -16,7 +14,7 @@ use Rattle.genie_input.specs.Buffers.{one_input, IsBuffer, AreBuffers}
 use Rattle.genie_input.specs.Pools.{PoolState}
 use Rattle.genie_plan.specs.Loans.{Loan, LoanKind, is_kind, loan_times, input_loan, input_loans, output_loan}
 use Rattle.genie_plan.specs.Loans as kind
-use Rattle.genie_plan.specs.Plans.{times, input_frames, AreApart}
+use Rattle.genie_plan.specs.Plans.{times, input_frames}
 use Rattle.genie_model.specs.Lemmas.Lists.{Has, has_at, has_any}
 use Rattle.genie_model.specs.Tables.{entry, without}
 use Rattle.genie_kernel.specs.declared.kernel.Kernel.{Kernel}
@@ -24,11 +22,11 @@ use Rattle.genie_kernel.specs.declared.transfer.Loans.{Loans}
 use Rattle.genie_kernel.specs.declared.transfer.Loans.TheVariants.{Nothing, Outward, Inward}
 use Rattle.genie_kernel.specs.declared.transfer.Transfer.{Transfer}
 use Rattle.genie_kernel.specs.Calls.{has_number, is_strong_call, number_of}
-use Rattle.genie_kernel.specs.Counted.{lent_of, loans_on, wires_on, is_wiring, pool_on}
+use Rattle.genie_kernel.specs.Counted.{loans_on, wires_on, is_wiring, pool_on}
 use Rattle.genie_kernel.specs.Good.{IsGood}
 use Rattle.genie_kernel.specs.Loans.{frames_of, loans_of, has_frame}
 use Rattle.genie_kernel.specs.Owners.{holders}
-use Rattle.genie_kernel.specs.Planned.{AreItsOwn, LendsIn}
+use Rattle.genie_kernel.specs.Planned.{AreItsOwn}
 use Rattle.genie_kernel.specs.Lemmas.Beside.{sum_beside}
 
 -- a frame that isn't among these isn't counted

@@ -1,21 +1,17 @@
 -- The end of a copy input is one step, also where the store fails.
-use Rattle.std.proofs.Common.{◌≡◌, ◌≢◌, ℕ, ◌+◌, ◌-◌, ◌*◌, ◌/◌, ◌%◌, ◌≤◌, List, refl, sym, ap, subst, ◌∙◌, length, get_or, false, true}
+use Rattle.std.proofs.Common.{◌≡◌, ℕ, ◌+◌, ◌/◌, ◌≤◌, List, refl, sym, ap, subst, ◌∙◌, length, get_or, false, true}
 use Rattle.std.specs.Prelude.{Option, Some, None, All, find}
 use Rattle.std.specs.Option.{option_map}
 use Rattle.genie_base.specs.Bytes.{overlaid}
 use Rattle.genie_base.specs.Causes.{Rose}
 use Rattle.genie_base.specs.Counts.{span}
-use Rattle.genie_base.specs.Events.{mark_of}
-use Rattle.genie_base.specs.Transfers.{class_of, is_strong}
-use Rattle.genie_base.specs.declared.event.Event.{Event}
+use Rattle.genie_base.specs.Transfers.{is_strong}
 use Rattle.genie_base.specs.declared.event.Event.TheVariants.{Finish}
 use Rattle.genie_base.specs.declared.reply.Mark.{Mark}
-use Rattle.genie_base.specs.declared.reply.Mark.TheVariants.{NoFault}
 use Rattle.genie_base.specs.declared.reply.Reply.{Reply}
 use Rattle.genie_base.specs.declared.reply.Reply.TheVariants as reply
 use Rattle.genie_base.specs.declared.semantics.Class.TheVariants.{Copy}
 use Rattle.genie_frame.specs.declared.frame.InLoan.{InLoan}
-use Rattle.genie_host.specs.Host.{HostView}
 use Rattle.genie_store.specs.StoreView.{StoreView}
 use Rattle.genie_object.specs.declared.memory.Memory.{Memory}
 use Rattle.genie_object.specs.declared.objects.Range.{Range}
@@ -24,13 +20,12 @@ use Rattle.genie_object.specs.Objects.{object_at}
 use Rattle.genie_object.specs.Sound.{IsSized}
 use Rattle.genie_object.specs.Touching.{is_in_range}
 use Rattle.genie_plan.specs.Landings.{entries_bytes}
-use Rattle.genie_plan.specs.Plans.{input_frames, range_bytes}
+use Rattle.genie_plan.specs.Plans.{input_frames}
 use Rattle.genie_region.specs.declared.region.Region.{Region}
 use Rattle.genie_hiding.specs.Hidden.{is_among, objects_of}
-use Rattle.genie_model.specs.Lemmas.Lists.{Has, has_at}
+use Rattle.genie_model.specs.Lemmas.Lists.{has_at}
 use Rattle.genie_model.specs.Pending.{is_ready}
 use Rattle.genie_model.specs.Refusing.{refuse}
-use Rattle.genie_model.specs.State as flat
 use Rattle.genie_kernel.specs.declared.kernel.Kernel.{Kernel}
 use Rattle.genie_kernel.specs.declared.transfer.Transfer.{Transfer}
 use Rattle.genie_kernel.specs.Calls.{has_number, is_strong_call}
@@ -41,8 +36,8 @@ use Rattle.genie_kernel.specs.Steps.{AloneIsTold, StepsTold, StoreCause, Steps, 
 use Rattle.genie_kernel.specs.View.{Bytes, outline, state_of, view}
 use Rattle.genie_kernel.specs.Lemmas.Stepping.{accepted_step}
 use Rattle.genie_changes.specs.Ending.{without_call}
-use Rattle.genie_changes.specs.Making.{IsMoved, with_memory}
-use Rattle.genie_changes.specs.Paged.{HavePages, IsPaged, PagedIsTold, StepsPaged}
+use Rattle.genie_changes.specs.Making.{IsMoved}
+use Rattle.genie_changes.specs.Paged.{IsPaged, PagedIsTold, StepsPaged}
 use Rattle.genie_changes.specs.Premises.{ShowsPages}
 use Rattle.genie_arrivals.specs.Cases.{IsInputOf}
 use Rattle.genie_arrivals.specs.CopyLaws.{CopyLaws}
@@ -54,7 +49,7 @@ use Rattle.genie_arrivals.specs.SwapLaws.{SwapLaws}
 use Rattle.genie_arrivals.specs.Targets.{IsTarget}
 use Rattle.genie_arrivals.proofs.Finishing.{HasBuffer, Puts, orderly_after, payload, payload_bytes, steps}
 use Rattle.genie_arrivals.proofs.Paging.{padded, padded_paged, seen_padded}
-use Rattle.genie_arrivals.proofs.Readying.{Aim, is_roomy, other_object, range_silent, range_unhidden, target_backed, target_owned, unspoken}
+use Rattle.genie_arrivals.proofs.Readying.{Aim, is_roomy, other_object, range_silent, range_unhidden, target_backed, unspoken}
 use Rattle.genie_arrivals.proofs.Swapped.{swapped_frames, swapped_kept, swapped_settled}
 
 failed_step : (k : Kernel) (n : ℕ) (o : Option Bytes) → refuse (outline k) (Finish n) ≡ None → StepsTold (option_map (state_of k) o) (Finish n) (option_map (state_of k) o) reply.StoreFault

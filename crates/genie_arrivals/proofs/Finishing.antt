@@ -1,28 +1,23 @@
 -- The end of a copy input whose bytes are stored, as one step.
-use Rattle.std.proofs.Common.{◌≡◌, ◌≢◌, ℕ, ◌+◌, ◌-◌, ◌*◌, ◌/◌, ◌%◌, ◌<◌, ◌≤◌, ◌^◌, zero, suc, Bool, true, false, List, [], ◌∷◌, ◌++◌, refl, sym, ap, ap₂, subst, arith, rules, ◌∙◌, length, take, drop, map, get_or, min}
-use Rattle.std.specs.Prelude.{Option, Some, None, find, flat_map, unwrap_or, if◌then◌else◌}
+use Rattle.std.proofs.Common.{◌≡◌, ℕ, ◌+◌, ◌-◌, ◌*◌, ◌/◌, ◌%◌, ◌<◌, ◌≤◌, ◌^◌, zero, suc, Bool, true, List, [], ◌∷◌, ◌++◌, refl, sym, ap, ap₂, subst, arith, rules, ◌∙◌, length, take, drop, get_or}
+use Rattle.std.specs.Prelude.{Some, None, find, flat_map, unwrap_or, if◌then◌else◌}
 use Rattle.std.specs.List.{range_with_len}
 use Rattle.std.specs.Option.{option_map}
-use Rattle.genie_base.specs.Bytes.{overlaid, part}
+use Rattle.genie_base.specs.Bytes.{part}
 use Rattle.genie_base.specs.Counts.{span}
-use Rattle.genie_base.specs.Events.{mark_of}
 use Rattle.genie_base.specs.Transfers.{class_of, is_strong}
 use Rattle.genie_base.specs.declared.event.Event.TheVariants.{Finish}
 use Rattle.genie_base.specs.declared.reply.Reply.{Reply}
 use Rattle.genie_base.specs.declared.reply.Reply.TheVariants as reply
-use Rattle.genie_base.specs.declared.semantics.Class.{Class}
 use Rattle.genie_base.specs.declared.semantics.Class.TheVariants.{Copy}
-use Rattle.genie_base.specs.declared.semantics.Direction.{Direction}
 use Rattle.genie_base.specs.declared.semantics.Direction.TheVariants as direction
 use Rattle.genie_frame.specs.declared.frame.InLoan.{InLoan}
 use Rattle.genie_frame.specs.declared.frame.Owner.{Owner}
-use Rattle.genie_frame.specs.declared.frame.Owner.TheVariants.{System}
-use Rattle.genie_frame.specs.FrameTable.{FrameTable, bytes_at, counts_at, owner_at}
+use Rattle.genie_frame.specs.FrameTable.{FrameTable, bytes_at, counts_at}
 use Rattle.genie_object.specs.declared.memory.Memory.{Memory}
 use Rattle.genie_object.specs.declared.objects.Range.{Range}
 use Rattle.genie_object.specs.Memory.{is_kept, seen}
 use Rattle.genie_object.specs.Objects.{object_at}
-use Rattle.genie_object.specs.Touching.{is_in_range}
 use Rattle.genie_hiding.specs.Hidden.{objects_of}
 use Rattle.genie_finish.specs.Ranges.{CanStoreRange}
 use Rattle.genie_object.specs.Costs.{AreBelow}
@@ -30,13 +25,13 @@ use Rattle.genie_plan.specs.declared.plan.InPlan.{InPlan}
 use Rattle.genie_plan.specs.Loans.{input_loans}
 use Rattle.genie_plan.specs.Plans.{input_frames, joined, range_bytes}
 use Rattle.genie_region.specs.declared.region.Region.{Region}
-use Rattle.genie_model.specs.Ending.{without_transfer, finish, finish_copy, finish_input}
+use Rattle.genie_model.specs.Ending.{without_transfer, finish, finish_copy}
 use Rattle.genie_model.specs.Inputs.{address_or_zero}
 use Rattle.genie_model.specs.Lemmas.Lists.{Has, all_has, find_has}
 use Rattle.genie_model.specs.Pending.{is_ready}
 use Rattle.genie_model.specs.Refusing.{refuse}
 use Rattle.genie_model.specs.Regions as model
-use Rattle.genie_model.specs.Space.{stored, tidy}
+use Rattle.genie_model.specs.Space.{tidy}
 use Rattle.genie_model.specs.State as flat
 use Rattle.genie_model.specs.Tables.{entry, without}
 use Rattle.genie_orderly.specs.Orderly.{IsOrderly}
@@ -51,7 +46,7 @@ use Rattle.genie_kernel.specs.Orphans.{lent_bytes}
 use Rattle.genie_kernel.specs.Planned.{AreItsOwn, Lends, LendsIn, LendsInput, LendsStrongly, is_early_device}
 use Rattle.genie_kernel.specs.Regions.{object_bytes, owned_regions, region_view, regions_of}
 use Rattle.genie_kernel.specs.Same.{SameNeeded}
-use Rattle.genie_kernel.specs.Steps.{Steps, bytes_over}
+use Rattle.genie_kernel.specs.Steps.{Steps}
 use Rattle.genie_kernel.specs.Transfers.{input_bytes, payload_of}
 use Rattle.genie_kernel.specs.Calls.{first_waiting}
 use Rattle.genie_kernel.specs.View.{Bytes, state_of, outline, no_bytes}
@@ -59,20 +54,19 @@ use Rattle.genie_changes.specs.Ending.{ShowsOthers, without_call}
 use Rattle.genie_changes.specs.Premises.{ShowsPages}
 use Rattle.genie_arrivals.specs.CopyLaws.{CopyLaws}
 use Rattle.genie_arrivals.specs.EndLaws.{EndLaws}
-use Rattle.genie_arrivals.specs.SwapLaws.{SwapLaws}
 use Rattle.genie_arrivals.specs.Stored.{CanStoreBuffer}
 use Rattle.genie_arrivals.specs.Targets.{IsTarget, reached_by}
 use Rattle.genie_room.specs.Bounds.{IsShort}
 use Rattle.std.proofs.Math.Nat.{add-mul-mod_self_right}
 use Rattle.genie_arrivals.proofs.Alone.{are_buffers}
 use Rattle.genie_arrivals.proofs.Lent.{lends_at}
-use Rattle.genie_arrivals.proofs.Found.{IsIdle, ready_idle, seen_as}
+use Rattle.genie_arrivals.proofs.Found.{ready_idle, seen_as}
 use Rattle.genie_arrivals.proofs.Putting.{PutsBytes, put_state}
 use Rattle.genie_arrivals.proofs.Quiet.{unbuffered}
 use Rattle.genie_arrivals.proofs.Reaching.{write_view, written_inside}
 use Rattle.genie_arrivals.proofs.Readying.{is_roomy, span_known, stored_most, target_owned}
 use Rattle.genie_arrivals.proofs.Replying.{input_finish, outcome, quiet_steps}
-use Rattle.genie_arrivals.proofs.Zeros.{AreZeros, zeros_dropped, zeros_each, zeros_overlaid, zeros_taken}
+use Rattle.genie_arrivals.proofs.Zeros.{zeros_dropped, zeros_each, zeros_overlaid, zeros_taken}
 
 -- the bytes that have come, as they lie in a buffer's frames
 abbrev pub payload : (ℕ → List ℕ) → Transfer → List ℕ

@@ -1,9 +1,7 @@
 -- What is seen of a memory hangs on its taken slots alone.
-use Rattle.std.proofs.Common.{◌≡◌, ℕ, ◌<◌, Bool, true, false, List, [], refl, sym, ap, subst, arith, rules, ◌∙◌, length}
+use Rattle.std.proofs.Common.{◌≡◌, ℕ, ◌<◌, Bool, true, false, List, refl, sym, ap, arith, rules, ◌∙◌, length}
 use Rattle.std.specs.Prelude.{Option, Some, None, nat_lt, replicate, if◌then◌else◌}
-use Rattle.std.proofs.lemmas.Bool.{cases_Bool}
 use Rattle.std.proofs.lemmas.List.{length-replicate}
-use Rattle.genie_frame.specs.FrameTable.{FrameTable}
 use Rattle.genie_object.specs.declared.memory.Memory.{Memory}
 use Rattle.genie_object.specs.declared.pages.PageId.{PageId}
 use Rattle.genie_object.specs.declared.pages.PageInfo.{PageInfo}

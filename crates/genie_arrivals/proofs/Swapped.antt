@@ -1,5 +1,5 @@
 -- The kernel without a strong input whose buffer was stored.
-use Rattle.std.proofs.Common.{◌≡◌, ◌≢◌, ℕ, ◌+◌, ◌-◌, ◌<◌, ◌≤◌, zero, suc, Bool, true, false, not, cond, List, [], ◌∷◌, refl, sym, ap, ap₂, subst, arith, rules, ◌∙◌, length, map, get_or, ⊎_elim, inl, inr, ◌/◌, ◌*◌, eq-eqb}
+use Rattle.std.proofs.Common.{◌≡◌, ◌≢◌, ℕ, ◌+◌, ◌-◌, ◌<◌, ◌≤◌, Bool, true, false, not, cond, List, [], ◌∷◌, refl, sym, ap, subst, arith, rules, ◌∙◌, length, map, get_or, ⊎_elim, inl, inr, ◌/◌, ◌*◌, eq-eqb}
 use Rattle.std.specs.Prelude.{Option, Some, None, All, AllPairs, IfSome, find, filter, ◌⊎◌, ◌==◌, ◌&&◌, if◌then◌else◌}
 use Rattle.std.specs.List.{list_any}
 use Rattle.std.proofs.lemmas.Bool.{cases_Bool}
@@ -8,26 +8,24 @@ use Rattle.genie_base.specs.Counts.{span}
 use Rattle.genie_base.specs.Transfers.{is_emulated}
 use Rattle.genie_frame.specs.declared.frame.Counts.{Counts}
 use Rattle.genie_frame.specs.declared.frame.InLoan.{InLoan}
-use Rattle.genie_frame.specs.declared.frame.Owner.{Owner}
 use Rattle.genie_frame.specs.declared.frame.Owner.TheVariants.{Free, System, Pool, Nobody}
-use Rattle.genie_frame.specs.FrameTable.{bytes_at, counts_at, is_lent, is_page, is_system, no_counts, owner_at}
+use Rattle.genie_frame.specs.FrameTable.{counts_at, is_lent, is_page, is_system, owner_at}
 use Rattle.genie_hiding.specs.Hidden.{is_among, objects_of}
 use Rattle.genie_hiding.specs.Lemmas.Naming.{fits_kept}
-use Rattle.genie_input.specs.Buffers.{AreBuffers, IsBuffer, one_input}
+use Rattle.genie_input.specs.Buffers.{AreBuffers, one_input}
 use Rattle.genie_input.specs.Pools.{PoolState}
 use Rattle.genie_object.specs.declared.memory.Memory.{Memory}
 use Rattle.genie_object.specs.declared.objects.Entry.{Entry}
 use Rattle.genie_object.specs.Memory.{seen}
 use Rattle.genie_object.specs.Objects.{is_absent, object_at}
 use Rattle.genie_object.specs.Sound.{FitsHidden}
-use Rattle.genie_object.specs.Touching.{is_in_range, system_owner}
+use Rattle.genie_object.specs.Touching.{is_in_range}
 use Rattle.genie_plan.specs.Loans.{input_loans, less}
-use Rattle.genie_plan.specs.Plans.{AreApart, input_frames, times}
+use Rattle.genie_plan.specs.Plans.{input_frames, times}
 use Rattle.genie_plan.specs.Lemmas.Ending.{some_or}
 use Rattle.genie_plan.specs.Lemmas.Landings.{times_some}
 use Rattle.genie_region.specs.declared.region.Region.{Region}
-use Rattle.genie_space.specs.Translations.{IsBacked}
-use Rattle.genie_model.specs.Lemmas.Lists.{Has, all_has, find_has, has_at, has_any, pairs_head, pairs_tail}
+use Rattle.genie_model.specs.Lemmas.Lists.{Has, find_has, has_at, has_any, pairs_head, pairs_tail}
 use Rattle.genie_model.specs.Pending.{is_ready}
 use Rattle.genie_model.specs.Tables.{entry, without}
 use Rattle.genie_kernel.specs.declared.kernel.Kernel.{Kernel}
@@ -50,7 +48,7 @@ use Rattle.genie_kernel.specs.Lemmas.Keeping.{guards_kept, transfer_lent}
 use Rattle.genie_kernel.specs.Lemmas.Lending.{counts_shrink}
 use Rattle.genie_kernel.specs.Lemmas.Owning.{owned_less}
 use Rattle.genie_kernel.specs.Lemmas.Staying.{lent_true, pool_same, system_same, weak_held, weak_there}
-use Rattle.genie_changes.specs.Ending.{ShowsOthers, without_call}
+use Rattle.genie_changes.specs.Ending.{without_call}
 use Rattle.genie_changes.specs.Pages.{EachFrame, StaysInFrame}
 use Rattle.genie_changes.specs.Pending.{OwnFramesStay}
 use Rattle.genie_changes.specs.Settled.{IsSettled}

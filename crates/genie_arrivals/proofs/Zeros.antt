@@ -1,7 +1,7 @@
 -- Zeros stored among zeros.
 use Rattle.std.proofs.Common.{◌≡◌, ℕ, zero, suc, List, [], ◌∷◌, ◌++◌, refl, sym, ap, ap₂, ◌∙◌, take, drop}
 use Rattle.std.specs.Prelude.{flat_map, replicate, ⊤}
-use Rattle.genie_base.specs.Bytes.{overlaid, part}
+use Rattle.genie_base.specs.Bytes.{overlaid}
 
 abbrev pub AreZeros : List ℕ → Type 0
 AreZeros [] = ⊤

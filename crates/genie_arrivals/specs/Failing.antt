@@ -1,5 +1,4 @@
 -- What an event leaves that may ask the store.
-use Rattle.std.specs.Prelude.{ℕ}
 use Rattle.genie_base.specs.Events.{mark_of}
 use Rattle.genie_base.specs.declared.event.Event.{Event}
 use Rattle.genie_base.specs.declared.reply.Reply.{Reply}
