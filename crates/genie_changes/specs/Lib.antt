@@ -17,5 +17,6 @@ pub mod Ending
 pub mod Paged
 pub mod Removal
 pub mod Gone
+pub mod Hiding
 pub mod Turned
 pub mod Unnamed
