@@ -15,16 +15,16 @@ use Rattle.genie_wire.specs.declared.header.Header.{Header}
 use Rattle.genie_model.specs.Pending.{is_early}
 use Rattle.genie_model.specs.Refusing.{refuse}
 use Rattle.genie_model.specs.Tables.{entry}
-use Rattle.genie_model.specs.Lemmas.Lists.{all_has, entry_same}
+use Rattle.genie_model.specs.Lemmas.Lists.{entry_same}
 use Rattle.genie_kernel.specs.declared.kernel.Kernel.{Kernel}
 use Rattle.genie_kernel.specs.declared.transfer.Transfer.{Transfer}
-use Rattle.genie_kernel.specs.Calls.{has_number, is_strong_call, number_of, receiver}
+use Rattle.genie_kernel.specs.Calls.{has_number, number_of, receiver}
 use Rattle.genie_kernel.specs.Good.{IsGood}
 use Rattle.genie_kernel.specs.Handles.{HasHandles}
 use Rattle.genie_kernel.specs.Planned.{is_early_device}
 use Rattle.genie_kernel.specs.View.{outline}
 use Rattle.genie_changes.specs.Working.{at_work}
-use Rattle.genie_receiving.specs.Early.{IsWithin, IsWithinAt, IsOutside, IsOutsideAt, HasStrongInputs, len_of}
+use Rattle.genie_receiving.specs.Early.{IsWithin, IsWithinAt, IsOutside, IsOutsideAt, len_of}
 use Rattle.genie_receiving.specs.Gathering.{GathersHeader, HasDatagram, MayGather}
 use Rattle.genie_receiving.specs.Landing.{HasPlan, IsInward, MayLand, MayLandIn, MayMove, ReceivesInto}
 use Rattle.genie_receiving.specs.Laws.{ReceiveLaws}
@@ -37,7 +37,7 @@ use Rattle.genie_receiving.proofs.Landed.{LandingsShow, within_receives}
 use Rattle.genie_receiving.proofs.Matching.{matching_receives}
 use Rattle.genie_receiving.proofs.Ready.{IsEarlyInput, can_land, plan_of}
 use Rattle.genie_receiving.proofs.Telling.{is_received}
-use Rattle.genie_receiving.proofs.Showing.{strong_shows, strong_begun_shows}
+use Rattle.genie_receiving.proofs.Showing.{input_shows, begun_shows}
 
 -- budgets are small, and so is what has landed
 pub fits_room : (k : Kernel) (d n landed : ℕ) → refuse (outline k) (Recv d n) ≡ None → landed < 2 ^ 63 → landed + n < 2 ^ 64
@@ -122,25 +122,25 @@ has_begun k d n moved old now devices h x =
     subst HasDatagram (sym here) (ap (λ (v : DeviceView). is_some v.present) x.receives.device)
 
 -- the datagram goes on to its input
-pub rest_receives : ReceiveLaws → (k new : Kernel) (d n len id : ℕ) (old now : HostView) (r : Reply) → IsGood k → refuse (outline k) (Recv d n) ≡ None → IsWithinAt len (entry k.devices d) → HasStrongInputs d k.transfers → option_map number_of (receiver k.transfers d) ≡ Some id → ReceivesInto d id len 0 n old now k new r → Receives d n old now k new r
-rest_receives laws k new d n len id old now r g accepted at strong is x =
+pub rest_receives : ReceiveLaws → (k new : Kernel) (d n len id : ℕ) (old now : HostView) (r : Reply) → IsGood k → refuse (outline k) (Recv d n) ≡ None → IsWithinAt len (entry k.devices d) → option_map number_of (receiver k.transfers d) ≡ Some id → ReceivesInto d id len 0 n old now k new r → Receives d n old now k new r
+rest_receives laws k new d n len id old now r g accepted at is x =
     let q = some_found (receiver k.transfers d) id is in
     let v = device_of k d len at in
     let t : Transfer = q.0 in
     let i : IsReceiver k d v.0 t = is_receiver laws k d v.0 t g v.1 v.2.early q.1 in
-    within_receives laws k new d n len t old now r g accepted at q.1 (λ y stored. strong_shows k d v.0 t y g i.early i.input (all_has (λ (u : Transfer). u.dev ≡ d → is_strong_call u ≡ true) k.transfers strong t i.early.pends i.early.dev) (omega (arith, stored))) (subst (λ m. ReceivesInto d m len 0 n old now k new r) (sym q.2) x)
+    within_receives laws k new d n len t old now r g accepted at q.1 (λ y stored. input_shows laws k d v.0 t y g i.early i.input (omega (arith, stored))) (subst (λ m. ReceivesInto d m len 0 n old now k new r) (sym q.2) x)
 
 -- the record has met an input
-pub record_receives : ReceiveLaws → (k mid new : Kernel) (d n id moved : ℕ) (h : Header) (old middle now : HostView) (r : Reply) → IsGood k → refuse (outline k) (Recv d n) ≡ None → IsOutsideAt (entry k.devices d) → HasStrongInputs d k.transfers → GathersHeader d n old middle k.devices mid.devices moved (Whole h) → mid ≡ record k { devices = mid.devices; posted = mid.posted } → mid.posted ≡ without id k.posted → posted_number (first address d h.port h.flow k.posted) ≡ Some id
+pub record_receives : ReceiveLaws → (k mid new : Kernel) (d n id moved : ℕ) (h : Header) (old middle now : HostView) (r : Reply) → IsGood k → refuse (outline k) (Recv d n) ≡ None → IsOutsideAt (entry k.devices d) → GathersHeader d n old middle k.devices mid.devices moved (Whole h) → mid ≡ record k { devices = mid.devices; posted = mid.posted } → mid.posted ≡ without id k.posted → posted_number (first address d h.port h.flow k.posted) ≡ Some id
     → ReceivesInto d id h.len moved (n - moved) middle now mid new r → Receives d n old now k new r
-record_receives laws k mid new d n id moved h old middle now r g accepted at strong gathered mid_is posted met x =
+record_receives laws k mid new d n id moved h old middle now r g accepted at gathered mid_is posted met x =
     let v = outside_of k d at in
     let m : IsMet k d id v.0 = is_met laws k d id h.port h.flow v.0 g v.1 v.2.early met in
     matching_receives laws k mid new d n id moved h old middle now r g accepted at gathered mid_is posted met
     (λ t found unstored.
     let same : m.transfer ≡ t = same_some m.transfer t (sym m.input.found ∙ found) in
     subst (λ (u : Transfer). LandingsShow (begun_kernel k id u) (at_work (work_begun u) u) 0) same
-    (strong_begun_shows laws k d id v.0 m.transfer g m.early m.input (all_has (λ (u : Transfer). u.dev ≡ d → is_strong_call u ≡ true) k.transfers strong m.transfer m.early.pends m.early.dev) m.unstored)) x
+    (begun_shows laws k d id v.0 m.transfer g m.early m.input m.unstored)) x
   where
     same_some : (a e : Transfer) → Some a ≡ Some e → a ≡ e
     same_some a e s = cc

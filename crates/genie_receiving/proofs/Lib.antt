@@ -23,3 +23,7 @@ pub mod Matching
 pub mod EarlySteps
 pub mod Showing
 pub mod Answering
+pub mod Owned
+pub mod Put
+pub mod Weak
+pub mod Drifting

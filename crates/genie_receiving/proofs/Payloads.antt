@@ -46,7 +46,7 @@ pub record ShowsLanded (k : Kernel) (t : Transfer) (x : ℕ) (bytes : List ℕ) 
   pub payload : is_strong_call t ≡ true → lent_bytes c.seen.kept_bytes t ≡ overlaid x bytes (lent_bytes b.seen.kept_bytes t)
 
 -- what was stored before the new bytes, and these
-take_none : (n : ℕ) → take {A = ℕ} n [] ≡ []
+pub take_none : (n : ℕ) → take {A = ℕ} n [] ≡ []
 take_none zero = refl
 take_none (suc n) = refl
 

@@ -137,13 +137,13 @@ covers page at len y q r d p l is a b h =
     let f : page * (d + 1) ≡ page * d + page = grind arith in
     omega arith
 
-below : (page a b : ℕ) → 0 < page → a ≤ b → a / page ≤ b / page
+pub below : (page a b : ℕ) → 0 < page → a ≤ b → a / page ≤ b / page
 below page a b p h = grind arith
 
 joined : (page y q : ℕ) → 0 < page → q ≤ y / page → y ≡ page * (q + (y / page - q)) + y % page
 joined page y q p h = let e : q + (y / page - q) ≡ y / page = omega arith in rw e (omega arith)
 
-some_span : (page at len : ℕ) → 0 < len → span page at len ≡ (at + len - 1) / page - at / page + 1
+pub some_span : (page at len : ℕ) → 0 < len → span page at len ≡ (at + len - 1) / page - at / page + 1
 some_span page at len l = let none : (len == 0) ≡ false = grind (arith, rules, l) in rw none refl
 
 pub span_covers : (page at len : ℕ) → 0 < page → 0 < len → at % page + len ≤ page * span page at len

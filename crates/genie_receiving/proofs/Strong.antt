@@ -69,7 +69,7 @@ one_holder (x ∷ ts) f n t u e a b c d = elim (has_frame f x) as (λ h. has_fra
     later y (inl p) h g = let clash : false ≡ true = sym g ∙ ap (has_frame f) p ∙ h in absurd (cc)
     later y (inr p) h g = p
 
-none_or : (i : ℕ) → (i ≡ 0) ⊎ (0 < i)
+pub none_or : (i : ℕ) → (i ≡ 0) ⊎ (0 < i)
 none_or zero = inl refl
 none_or (suc i) = inr (omega arith)
 
@@ -79,7 +79,7 @@ take_before (suc n) x bytes [] h = refl
 take_before (suc n) zero bytes (y ∷ l) h = absurd (omega (arith, h))
 take_before (suc n) (suc x) bytes (y ∷ l) h = ap (λ z. y ∷ z) (take_before n x bytes l (omega (arith, h)))
 
-weak_covers : (n y : ℕ) (u : Transfer) → covers n y u ≡ true → is_strong_call u ≡ false
+pub weak_covers : (n y : ℕ) (u : Transfer) → covers n y u ≡ true → is_strong_call u ≡ false
 weak_covers n y u e = elim (is_strong_call u) as (λ s. is_strong_call u ≡ s → s ≡ false) [
   | true ↦ λ is. let no_cover : covers n y u ≡ false = ap (λ s. not s && is_named u.region n && nat_le u.offset y && nat_lt y (u.offset + u.len)) is in absurd (cc)
   | false ↦ λ is. refl
@@ -93,7 +93,7 @@ times_none (g ∷ frames) f e =
     let first : num (g == f) ≡ 0 = ap num both.0 in
     omega (arith, times-cons g f frames, first, times_none frames f both.1)
 
-any_at : (frames : List ℕ) (j : ℕ) → j < length frames → list_any (λ g. g == get_or frames j 0) frames ≡ true
+pub any_at : (frames : List ℕ) (j : ℕ) → j < length frames → list_any (λ g. g == get_or frames j 0) frames ≡ true
 any_at [] j l = absurd (omega (arith, l))
 any_at (f ∷ frames) zero l = ap (λ b. b || list_any (λ g. g == f) frames) (eq-eqb f f refl)
 any_at (f ∷ frames) (suc j) l = or_right (f == get_or frames j 0) (list_any (λ g. g == get_or frames j 0) frames) (any_at frames j (omega (arith, l)))

@@ -1,11 +1,9 @@
 -- An early device before a receive step.
-use Rattle.std.specs.Prelude.{◌≡◌, ℕ, true, false, List, All, Option, None, Some}
+use Rattle.std.specs.Prelude.{◌≡◌, ℕ, true, false, Option, None, Some}
 use Rattle.std.specs.Option.{option_map}
 use Rattle.genie_device.specs.Device.{DeviceView}
 use Rattle.genie_device.specs.declared.present.Present.{Present}
 use Rattle.genie_model.specs.Pending.{is_early}
-use Rattle.genie_kernel.specs.declared.transfer.Transfer.{Transfer}
-use Rattle.genie_kernel.specs.Calls.{is_strong_call}
 
 abbrev pub len_of : Present → ℕ
 len_of g = g.header.len
@@ -29,7 +27,3 @@ pub record IsOutside (v : DeviceView) : Type 0 where
 abbrev pub IsOutsideAt : Option DeviceView → Type 0
 IsOutsideAt None = ⊥
 IsOutsideAt (Some v) = IsOutside v
-
--- the pending inputs and outputs of device d are strong
-abbrev pub HasStrongInputs : ℕ → List Transfer → Type 0
-HasStrongInputs d transfers = All (λ (t : Transfer). t.dev ≡ d → is_strong_call t ≡ true) transfers

@@ -1,5 +1,7 @@
 -- What receive steps stand on.
 use Rattle.genie_kernel.specs.Steps.{StaysOrderly}
+use Rattle.genie_changes.specs.Orphans.{ByteOfPage}
+use Rattle.genie_changes.specs.Premises.{NobodysFramesShow, OrphansLieInFrames, RegionsLeavePages}
 use Rattle.genie_changes.specs.Removing.{GoodTransfersRise}
 use Rattle.genie_changes.specs.Working.{OrphansWorked, TransfersWorked, CountedWorked, OwnedWorked, HeldWorked, PlannedWorked, FittingWorked, PostedWorked, PostedTaken, SendingWorked, ReceivingWorked, FirstWorked, ArrivedWorked}
 
@@ -7,6 +9,10 @@ use Rattle.genie_changes.specs.Working.{OrphansWorked, TransfersWorked, CountedW
 pub record ReceiveLaws : Type 0 where
   pub orderly : StaysOrderly
   pub rise : GoodTransfersRise
+  pub leaves : RegionsLeavePages
+  pub show : NobodysFramesShow
+  pub lie : OrphansLieInFrames
+  pub byte : ByteOfPage
   pub orphans : OrphansWorked
   pub transfers : TransfersWorked
   pub counted : CountedWorked

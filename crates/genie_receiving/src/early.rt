@@ -9,7 +9,7 @@ ghost use Rattle.genie_kernel.specs.Good.{IsGood};
 ghost use Rattle.genie_kernel.specs.Handles.{HasHandles};
 ghost use Rattle.genie_kernel.specs.Planned.{is_early_device};
 ghost use Rattle.genie_kernel.specs.View.{outline};
-ghost use Rattle.genie_receiving.specs.Early.{HasStrongInputs, IsOutsideAt, IsWithinAt, len_of};
+ghost use Rattle.genie_receiving.specs.Early.{IsOutsideAt, IsWithinAt, len_of};
 ghost use Rattle.genie_receiving.specs.Receiving.{Receives, IsReceived};
 
 use crate::gather::{drop_record, gather, header_reply};
@@ -34,7 +34,6 @@ fn receive_rest<H: Host>(
     requires handles { HasHandles kernel.old.config (H.view host.old) }
     requires landed { kernel.old.memory.frames.landed < 2 ^ 63 }
     requires accepted { refuse (outline kernel.old) (event.Recv dev n) ≡ None }
-    requires strong { HasStrongInputs dev kernel.old.transfers }
     requires within { IsWithinAt len (entry kernel.old.devices dev) }
     ensures { Receives dev n (H.view host.old) (H.view host.new) kernel.old kernel.new result }
 {
@@ -51,7 +50,6 @@ fn receive_record<H: Host>(kernel: &mut Kernel, host: &mut H, dev: u32, n: u32) 
     requires handles { HasHandles kernel.old.config (H.view host.old) }
     requires landed { kernel.old.memory.frames.landed < 2 ^ 63 }
     requires accepted { refuse (outline kernel.old) (event.Recv dev n) ≡ None }
-    requires strong { HasStrongInputs dev kernel.old.transfers }
     requires outside { IsOutsideAt (entry kernel.old.devices dev) }
     ensures { Receives dev n (H.view host.old) (H.view host.new) kernel.old kernel.new result }
 {
@@ -103,8 +101,9 @@ fn present_len(devices: &[Option<Device>; 8], dev: u32) -> Option<u32>
     }
 }
 
-/// One receive step of an early device whose pending calls are strong. It takes bytes of one record from its input, and none
-/// past the record's last one: at most `budget`, the header's and the payload's. `Bad` once a header wasn't valid, from
+/// One receive step of an early device. It takes bytes of one record from its input, and none past the record's last one:
+/// at most `budget`, the header's and the payload's, which land in the frames of the input that the record has met: a
+/// strong one's own, or those of the region or orphan that a weak one names. `Bad` once a header wasn't valid, from
 /// then on. `End` where the input has ended between records, or inside a header. `Dropped` where a whole header meets no
 /// posted input: the payload is skipped by later steps. Else `Got`, with 0 where the input ended inside a payload, which
 /// truncates the datagram. `Fault` where the host failed after so many bytes, which have been received.
@@ -119,7 +118,6 @@ pub fn recv_early<H: Host>(
     requires landed { kernel.old.memory.frames.landed < 2 ^ 63 }
     requires accepted { refuse (outline kernel.old) (event.Recv dev budget) ≡ None }
     requires early { is_early_device (entry kernel.old.devices dev) ≡ true }
-    requires strong { HasStrongInputs dev kernel.old.transfers }
     ensures { IsReceived dev budget (H.view host.old) (H.view host.new) kernel.old kernel.new result }
 {
     if is_bad(&kernel.devices, dev) {

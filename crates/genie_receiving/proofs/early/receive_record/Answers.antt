@@ -38,7 +38,7 @@ returns-in-Bad g c = header_receives c.receive_laws.ensures.orderly c.args.kerne
     (subst (λ (e : HeaderEnd). GathersHeader c.args.dev c.args.n (g.H.Host.view c.args.host.now) (g.H.Host.view c.gather-step.new.host) c.args.kernel.now.devices c.gather-step.new.devices c.gather-step.result.moved e) c.in-Bad.is c.gather-step.ensures)
 
 pub returns-in-Some : goal.returns-in-Some
-returns-in-Some g c = record_receives c.receive_laws.ensures c.args.kernel.now (record (c.args.kernel.now) { devices = c.gather-step.new.devices; posted = c.match_port.new.self }) c.receive_into.new.kernel c.args.dev c.args.n c.in-Some.id c.gather-step.result.moved c.in-Whole.header (g.H.Host.view c.args.host.now) (g.H.Host.view c.gather-step.new.host) (g.H.Host.view c.receive_into.new.host) c.receive_into.result c.requires.good c.requires.accepted c.requires.outside c.requires.strong
+returns-in-Some g c = record_receives c.receive_laws.ensures c.args.kernel.now (record (c.args.kernel.now) { devices = c.gather-step.new.devices; posted = c.match_port.new.self }) c.receive_into.new.kernel c.args.dev c.args.n c.in-Some.id c.gather-step.result.moved c.in-Whole.header (g.H.Host.view c.args.host.now) (g.H.Host.view c.gather-step.new.host) (g.H.Host.view c.receive_into.new.host) c.receive_into.result c.requires.good c.requires.accepted c.requires.outside
     (subst (λ (e : HeaderEnd). GathersHeader c.args.dev c.args.n (g.H.Host.view c.args.host.now) (g.H.Host.view c.gather-step.new.host) c.args.kernel.now.devices c.gather-step.new.devices c.gather-step.result.moved e) c.in-Whole.is c.gather-step.ensures)
     refl c.in-Some.ensures.others (sym c.match_port.ensures.met ∙ c.in-Some.is) c.receive_into.ensures
 

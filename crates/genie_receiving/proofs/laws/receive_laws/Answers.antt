@@ -4,6 +4,10 @@ pub returns : goal.returns
 returns c = record {
   orderly = c.accepted_events_step.ensures.orderly;
   rise = c.numbers_differ.ensures.transfers;
+  leaves = c.regions_leave_pages.ensures;
+  show = c.orphans_lie.ensures.show;
+  lie = c.orphans_lie.ensures.all;
+  byte = c.orphans_lie_in_frames.ensures.byte;
   orphans = c.worked_view.ensures.orphans;
   transfers = c.worked_view.ensures.transfers;
   counted = c.worked_loans.ensures.counted;
