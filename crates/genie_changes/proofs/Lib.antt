@@ -40,3 +40,5 @@ pub mod SettledEnds
 pub mod MovedOut
 pub mod RegionTurned
 pub mod UnnamedGone
+pub mod BuffersAlike
+pub mod BufferFreed

@@ -19,3 +19,4 @@ pub mod Removal
 pub mod Gone
 pub mod Turned
 pub mod Unnamed
+pub mod Released

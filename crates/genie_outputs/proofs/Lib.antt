@@ -9,3 +9,4 @@ pub mod Narrowed
 pub mod Lent
 pub mod Shared
 pub mod Given
+pub mod Gone

@@ -1,5 +1,5 @@
 //! What an output call stands on.
-ghost use Rattle.genie_outputs.specs.GivingUp.{MovingLaws};
+ghost use Rattle.genie_outputs.specs.GivingUp.{MovingLaws, RemovalLaws};
 ghost use Rattle.genie_outputs.specs.OutputLaws.{OutputLaws};
 
 use genie_changes::beginning::{
@@ -8,6 +8,8 @@ use genie_changes::beginning::{
 use genie_changes::given::{numbers_differ, regions_fit};
 use genie_changes::making::{memory_moves, moves_join};
 use genie_changes::moving_out::regions_move_out;
+use genie_changes::removal::removed_regions;
+use genie_changes::settled::good_kernels_are_settled;
 use genie_changes::states::added_state;
 use genie_kernel::laws::accepted_events_step;
 use genie_room::laws::{calls_can_begin, counts_are_low, places_suffice, queues_suffice};
@@ -37,4 +39,13 @@ pub(crate) fn moving_laws()
     regions_move_out();
     numbers_differ();
     queues_suffice();
+}
+
+// What a region leaves that is removed, between two changes of the event.
+pub(crate) fn removal_laws()
+    ensures { RemovalLaws }
+{
+    numbers_differ();
+    good_kernels_are_settled();
+    removed_regions();
 }

@@ -5,6 +5,7 @@ pub mod begin;
 pub mod call;
 mod laws;
 pub mod lending;
+pub mod moving;
 pub mod plain;
 pub mod reach;
 pub mod room;
@@ -12,6 +13,7 @@ pub mod sharing;
 pub mod strong;
 pub mod weak_moving;
 
+pub use crate::moving::out_moved;
 pub use crate::plain::out_copied;
 pub use crate::sharing::out_shared;
 pub use crate::strong::out_lent;
