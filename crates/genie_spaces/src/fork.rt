@@ -28,7 +28,7 @@ use genie_kernel::Kernel;
 use genie_kernel::laws::{memory_calls_keep_good, states_are_alike};
 use genie_region::Regions;
 use genie_room::laws::{four_are_available, room_is_kept};
-use genie_sharing::regions::drop_objects;
+use genie_sharing::drop_objects;
 use genie_store::{Store, StoreFault};
 
 // Drops the hidden regions of a process.
