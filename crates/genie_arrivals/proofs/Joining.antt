@@ -1,6 +1,6 @@
 -- Some frames of a buffer are stored, and the loans of the others end.
-use Rattle.std.proofs.Common.{◌≡◌, ◌≢◌, ℕ, ◌+◌, ◌-◌, ◌*◌, ◌/◌, ◌%◌, ◌<◌, ◌≤◌, zero, suc, Bool, true, false, cond, List, [], ◌∷◌, ◌++◌, refl, sym, ap, ap₂, subst, arith, rules, ◌∙◌, length, take, drop, map, get_or, ⊎_elim, inl, inr, length-append, length-drop, length-take, append_assoc}
-use Rattle.std.specs.Prelude.{All, Some, None, count_by, ◌⊎◌, replicate, nat_lt, if◌then◌else◌, ◌==◌}
+use Rattle.std.proofs.Common.{◌≡◌, ℕ, ◌+◌, ◌-◌, ◌*◌, ◌/◌, ◌%◌, ◌<◌, ◌≤◌, zero, suc, true, false, List, [], ◌∷◌, ◌++◌, refl, sym, ap, subst, arith, rules, ◌∙◌, length, take, drop, get_or, ⊎_elim, length-append, length-drop, length-take, append_assoc}
+use Rattle.std.specs.Prelude.{count_by, ◌⊎◌, replicate, if◌then◌else◌, ◌==◌}
 use Rattle.std.proofs.lemmas.Bool.{cases_Bool}
 use Rattle.std.proofs.lemmas.List.Sums.{sum_by-cons}
 use Rattle.std.proofs.lemmas.List.{drop-append-le, length-map, length-replicate, take-append-le}
@@ -17,14 +17,13 @@ use Rattle.genie_finish.specs.Ranges.{StoresRange}
 use Rattle.genie_input.specs.Buffers.{AreBuffers, IsBuffer, one_input}
 use Rattle.genie_object.specs.declared.memory.Memory.{Memory}
 use Rattle.genie_object.specs.Memory.{is_kept, seen}
-use Rattle.genie_object.specs.Pages.{page_at}
 use Rattle.genie_object.specs.Sound.{IsSound}
-use Rattle.genie_object.specs.Touching.{IsOutside, Touches, is_in_range, system_owner}
+use Rattle.genie_object.specs.Touching.{Touches, is_in_range, system_owner}
 use Rattle.genie_plan.specs.Ending.{CanEnd, EndsSoundly, ShowsAfterEnd}
 use Rattle.genie_plan.specs.Landings.{entries_bytes}
 use Rattle.genie_plan.specs.Loans.{AreOut, Ended, Loan, input_loan, input_loans, less, let_go, loan_times}
 use Rattle.genie_plan.specs.Loans as kind
-use Rattle.genie_plan.specs.Plans.{AreApart, input_frames, joined, range_bytes, times}
+use Rattle.genie_plan.specs.Plans.{input_frames, joined, range_bytes, times}
 use Rattle.genie_plan.specs.Lemmas.Ending.{some_or}
 use Rattle.genie_plan.specs.Lemmas.Landings.{times_some}
 use Rattle.genie_plan.specs.Lemmas.Ranges.{times_at}
@@ -48,7 +47,7 @@ on_frame : (f : ℕ) (loans : List InLoan) → count_by (λ (loan : Loan). loan.
 on_frame f [] = refl
 on_frame f (x ∷ loans) = omega (arith, on_frame f loans, sum_by-cons (λ (l : Loan). num (l.frame == f)) (input_loan x) (input_loans loans), sum_by-cons (λ (h : ℕ). num (h == f)) x.frame.0 (input_frames loans))
 
-less_by : (f : ℕ) (loans : List InLoan) (c : Counts) (n : ℕ) → times (input_frames loans) f ≡ n → less (input_loans loans) f c ≡ record c { input = c.input - n }
+pub less_by : (f : ℕ) (loans : List InLoan) (c : Counts) (n : ℕ) → times (input_frames loans) f ≡ n → less (input_loans loans) f c ≡ record c { input = c.input - n }
 less_by f loans c n e =
     let s : c.strong - loan_times (input_loans loans) kind.Strong f ≡ c.strong = omega (arith, none_strong f loans) in
     let w : c.weak - loan_times (input_loans loans) kind.Weak f ≡ c.weak = omega (arith, none_weak f loans) in

@@ -8,4 +8,10 @@ mod Lively
 mod Reaching
 mod Readying
 mod Joining
+mod Swapped
+mod Putting
+mod Zeros
+mod Finishing
+mod Paging
+mod Closing
 mod Moving

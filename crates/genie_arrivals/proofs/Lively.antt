@@ -1,13 +1,13 @@
 -- The region of a move input becomes its process's.
-use Rattle.std.proofs.Common.{◌≡◌, ℕ, List, refl, sym, ap, ◌∙◌, length-set, get_or}
+use Rattle.std.proofs.Common.{◌≡◌, ℕ, List, refl, ap, ◌∙◌, length-set, get_or}
 use Rattle.std.specs.Prelude.{Option, Some, None, IfSome, find}
 use Rattle.std.specs.List.{list_any}
 use Rattle.genie_base.specs.declared.region.RegionState.TheVariants as state
 use Rattle.genie_input.specs.Pools.{PoolState}
 use Rattle.genie_plan.specs.Plans.{input_frames}
 use Rattle.genie_region.specs.declared.region.Region.{Region}
-use Rattle.genie_space.specs.Spaces.{AddressSpaces, set_regions}
-use Rattle.genie_model.specs.Lemmas.Lists.{Has, all_has, find_has, has_any, has_at}
+use Rattle.genie_space.specs.Spaces.{set_regions}
+use Rattle.genie_model.specs.Lemmas.Lists.{all_has, find_has, has_any, has_at}
 use Rattle.genie_model.specs.Regions as model
 use Rattle.genie_model.specs.Tables.{entry}
 use Rattle.genie_orderly.specs.Orderly.{IsOrderly}

@@ -1,8 +1,6 @@
 -- The end of a weak move input whose bytes are in place.
-use Rattle.std.proofs.Common.{◌≡◌, ℕ, ◌+◌, ◌*◌, ◌^◌, ◌<◌, ◌≤◌, true, false, List, refl, sym, ap, subst, arith, ◌∙◌, map, eqb-true}
-use Rattle.std.specs.Prelude.{Option, Some, None, All, find, is_some, ◌==◌}
-use Rattle.genie_base.specs.Events.{mark_of}
-use Rattle.genie_base.specs.Transfers.{class_of}
+use Rattle.std.proofs.Common.{◌≡◌, ℕ, ◌+◌, ◌*◌, ◌^◌, ◌<◌, ◌≤◌, true, List, refl, sym, ap, subst, arith, ◌∙◌, map, eqb-true}
+use Rattle.std.specs.Prelude.{Option, Some, None, All, find}
 use Rattle.genie_base.specs.declared.event.Event.TheVariants.{Finish}
 use Rattle.genie_base.specs.declared.region.Area.{Area}
 use Rattle.genie_base.specs.declared.region.Area.TheVariants.{App, Sys}
@@ -13,7 +11,6 @@ use Rattle.genie_base.specs.declared.semantics.Class.TheVariants.{WeakMove}
 use Rattle.genie_frame.specs.FrameTable.{FrameTable, IsShaped, AreLoansOwned}
 use Rattle.genie_object.specs.Lemmas.Works.{page_most}
 use Rattle.genie_region.specs.declared.region.Region.{Region}
-use Rattle.genie_space.specs.Spaces as spaces
 use Rattle.genie_model.specs.Ending.{without_transfer, finish}
 use Rattle.genie_model.specs.Lemmas.Lists.{Has, all_has, at_entry, find_has, has_map}
 use Rattle.genie_model.specs.Pending.{is_ready}
@@ -27,7 +24,6 @@ use Rattle.genie_kernel.specs.declared.kernel.Kernel.{Kernel}
 use Rattle.genie_kernel.specs.declared.transfer.Transfer.{Transfer}
 use Rattle.genie_kernel.specs.Calls.{has_number, region_number}
 use Rattle.genie_kernel.specs.Good.{IsGood}
-use Rattle.genie_kernel.specs.Planned.{is_early_device}
 use Rattle.genie_kernel.specs.Regions.{has_id, region_view, regions_of}
 use Rattle.genie_kernel.specs.Steps.{Steps, bytes_over}
 use Rattle.genie_kernel.specs.View.{Bytes, state_of, outline, no_bytes}

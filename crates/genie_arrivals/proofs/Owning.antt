@@ -1,6 +1,6 @@
 -- Which process has a region.
 use Rattle.std.proofs.Common.{◌≡◌, ◌≢◌, ℕ, ◌+◌, ◌<◌, zero, suc, Bool, true, false, List, [], ◌∷◌, refl, sym, ap, ap₂, subst, arith, ◌∙◌, length, ⊎_elim}
-use Rattle.std.specs.Prelude.{Option, Some, None, ◌||◌}
+use Rattle.std.specs.Prelude.{Option, Some, ◌||◌}
 use Rattle.std.specs.List.{list_any}
 use Rattle.std.proofs.lemmas.Bool.{cases_eq}
 use Rattle.genie_region.specs.declared.region.Region.{Region}

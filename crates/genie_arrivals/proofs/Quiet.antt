@@ -1,6 +1,6 @@
 -- A transfer ends, and nothing changes but that what was lent for it is given back.
 use Rattle.std.proofs.Common.{◌≡◌, ℕ, Bool, true, false, List, refl, sym, ◌∙◌}
-use Rattle.std.specs.Prelude.{Option, Some, None, IfSome, find, is_some, not, ◌&&◌}
+use Rattle.std.specs.Prelude.{Option, Some, None, find, is_some, not, ◌&&◌}
 use Rattle.genie_base.specs.Events.{mark_of}
 use Rattle.genie_base.specs.declared.event.Event.TheVariants.{Finish}
 use Rattle.genie_base.specs.declared.reply.Mark.TheVariants.{NoFault}

@@ -1,29 +1,22 @@
 -- The range of a copy input.
-use Rattle.std.proofs.Common.{◌≡◌, ℕ, ◌+◌, ◌-◌, ◌*◌, ◌/◌, ◌%◌, ◌^◌, ◌<◌, ◌≤◌, Bool, true, false, List, refl, sym, ap, subst, arith, rules, ◌∙◌, length, eqb-true}
+use Rattle.std.proofs.Common.{◌≡◌, ℕ, ◌+◌, ◌-◌, ◌*◌, ◌/◌, ◌<◌, ◌≤◌, Bool, true, false, List, refl, sym, ap, arith, rules, ◌∙◌}
 use Rattle.std.specs.Prelude.{Option, Some, None, find, option_and_then, ◌==◌, if◌then◌else◌}
 use Rattle.std.specs.Option.{option_map}
 use Rattle.genie_base.specs.Counts.{span}
 use Rattle.genie_base.specs.Regions.{is_reached, reach, write_reach}
-use Rattle.genie_object.specs.Objects.{object_at}
 use Rattle.genie_object.specs.Lemmas.Works.{page_most}
 use Rattle.genie_region.specs.declared.region.Region.{Region}
 use Rattle.genie_region.specs.Layouts.{extent}
-use Rattle.genie_space.specs.Translations.{IsBacked}
-use Rattle.genie_hiding.specs.Hidden.{is_among, objects_of}
-use Rattle.genie_model.specs.Lemmas.Lists.{Has, all_has, find_has, has_left}
+use Rattle.genie_model.specs.Lemmas.Lists.{find_has}
 use Rattle.genie_model.specs.Regions as model
 use Rattle.genie_model.specs.State as flat
 use Rattle.genie_model.specs.Tables.{entry}
 use Rattle.genie_kernel.specs.declared.kernel.Kernel.{Kernel}
-use Rattle.genie_kernel.specs.declared.transfer.Transfer.{Transfer}
-use Rattle.genie_kernel.specs.Backed.{all_regions}
 use Rattle.genie_kernel.specs.Good.{IsGood}
-use Rattle.genie_kernel.specs.Regions.{owned_regions, region_view, regions_of}
+use Rattle.genie_kernel.specs.Regions.{region_view, regions_of}
 use Rattle.genie_kernel.specs.View.{Bytes, state_of}
 use Rattle.genie_kernel.specs.Lemmas.Asking.{ask_regions}
 use Rattle.genie_kernel.specs.Lemmas.Processes.{find_map}
-use Rattle.genie_changes.specs.Lemmas.Outside.{unhidden}
-use Rattle.genie_arrivals.specs.Targets.{reached_by}
 
 -- what a write reaches may be written
 pub record IsWritten (page a n : ℕ) (rs : List Region) (r : Region) : Type 0 where

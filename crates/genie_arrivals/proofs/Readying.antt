@@ -1,13 +1,11 @@
 -- The range of a copy input is inside its object, and may be made ready.
-use Rattle.std.proofs.Common.{◌≡◌, ℕ, ◌+◌, ◌-◌, ◌*◌, ◌/◌, ◌%◌, ◌^◌, ◌<◌, ◌≤◌, zero, suc, Bool, true, false, List, refl, sym, ap, subst, arith, rules, ◌∙◌, length, get_or, eqb-true, ⊎_elim}
-use Rattle.std.specs.Prelude.{Option, Some, None, All, IfSome, find, is_some, unwrap_or, ◌==◌, ◌&&◌, nat_le, nat_lt, if◌then◌else◌}
+use Rattle.std.proofs.Common.{◌≡◌, ℕ, ◌+◌, ◌-◌, ◌*◌, ◌/◌, ◌^◌, ◌<◌, ◌≤◌, zero, suc, Bool, true, false, List, refl, sym, ap, subst, arith, rules, ◌∙◌, length, get_or, eqb-true, ⊎_elim}
+use Rattle.std.specs.Prelude.{Option, Some, None, IfSome, find, is_some, unwrap_or, ◌==◌, ◌&&◌, nat_le, nat_lt, if◌then◌else◌}
 use Rattle.std.proofs.Math.Nat.{add-mul-div_right}
 use Rattle.std.proofs.lemmas.Bool.{cases_Bool}
 use Rattle.genie_base.specs.Counts.{span}
 use Rattle.genie_base.specs.Transfers.{class_of}
-use Rattle.genie_base.specs.declared.semantics.Class.{Class}
 use Rattle.genie_base.specs.declared.semantics.Class.TheVariants.{Copy}
-use Rattle.genie_base.specs.declared.semantics.Direction.{Direction}
 use Rattle.genie_base.specs.declared.semantics.Direction.TheVariants.{Inward}
 use Rattle.genie_frame.specs.declared.frame.Meters.{Meters}
 use Rattle.genie_frame.specs.FrameTable.{no_counts}
@@ -21,10 +19,9 @@ use Rattle.genie_object.specs.Costs.{AreBelow, Spends, write_work}
 use Rattle.genie_object.specs.Objects.{object_at}
 use Rattle.genie_object.specs.Touching.{is_in_range}
 use Rattle.genie_object.specs.Lemmas.Spending.{below_spent}
-use Rattle.genie_object.specs.Lemmas.Works.{below_more, page_most, write_most}
+use Rattle.genie_object.specs.Lemmas.Works.{below_more, write_most}
 use Rattle.genie_orderly.specs.Orderly.{IsTransfer}
 use Rattle.genie_region.specs.declared.region.Region.{Region}
-use Rattle.genie_region.specs.Layouts.{extent}
 use Rattle.genie_space.specs.Translations.{IsBacked}
 use Rattle.genie_store.specs.StoreView.{StoreView}
 use Rattle.genie_model.specs.Lemmas.Lists.{Has, all_has, find_has, has_at, has_left, has_map}
@@ -32,14 +29,14 @@ use Rattle.genie_model.specs.Tables.{entry}
 use Rattle.genie_kernel.specs.declared.kernel.Kernel.{Kernel}
 use Rattle.genie_kernel.specs.declared.transfer.Transfer.{Transfer}
 use Rattle.genie_kernel.specs.Backed.{all_regions}
-use Rattle.genie_kernel.specs.Calls.{addr_of, begins_at, has_number, is_copy_input}
+use Rattle.genie_kernel.specs.Calls.{begins_at, has_number, is_copy_input}
 use Rattle.genie_kernel.specs.Good.{IsGood}
 use Rattle.genie_kernel.specs.Regions.{owned_regions, regions_of}
 use Rattle.genie_kernel.specs.View.{no_bytes, outline}
 use Rattle.genie_kernel.specs.Lemmas.Keeping.{guards_kept, hidden_kept}
 use Rattle.genie_changes.specs.Lemmas.Once.{same_object}
 use Rattle.genie_changes.specs.Lemmas.Outside.{unhidden}
-use Rattle.genie_changes.specs.Making.{IsMoved, ShowsAndLends, with_memory}
+use Rattle.genie_changes.specs.Making.{IsMoved, ShowsAndLends}
 use Rattle.genie_changes.specs.Removing.{FitsTables}
 use Rattle.genie_room.specs.Bounds.{IsShort}
 use Rattle.genie_arrivals.specs.CopyLaws.{CopyLaws}
@@ -47,7 +44,7 @@ use Rattle.genie_arrivals.specs.Cases.{IsEarlyInput, IsInputOf}
 use Rattle.genie_arrivals.specs.Targets.{IsPending, IsTarget, IsTargetOf}
 use Rattle.genie_arrivals.proofs.Found.{seen_as}
 use Rattle.genie_arrivals.proofs.Owning.{had_owned}
-use Rattle.genie_arrivals.proofs.Reaching.{IsWritten, is_written, most_page, some_page, span_within, written_inside}
+use Rattle.genie_arrivals.proofs.Reaching.{is_written, most_page, some_page, span_within, written_inside}
 
 div_less : (x y page : ℕ) → 0 < page → x ≤ y → x / page ≤ y / page
 div_less x y page some l = grind (arith, some, l)

@@ -13,7 +13,6 @@ use Rattle.genie_base.specs.declared.reply.Reply.TheVariants as reply
 use Rattle.genie_base.specs.declared.region.RegionState.TheVariants.{Live}
 use Rattle.genie_base.specs.declared.semantics.Class.{Class}
 use Rattle.genie_base.specs.declared.semantics.Class.TheVariants.{Share, WeakMove}
-use Rattle.genie_base.specs.declared.semantics.Direction.{Direction}
 use Rattle.genie_base.specs.declared.semantics.Direction.TheVariants.{Inward}
 use Rattle.genie_device.specs.Device.{DeviceView}
 use Rattle.genie_input.specs.Pools.{PoolState}
@@ -31,7 +30,7 @@ use Rattle.genie_kernel.specs.declared.transfer.Transfer.{Transfer}
 use Rattle.genie_kernel.specs.Calls.{has_number, receiver, region_number}
 use Rattle.genie_kernel.specs.Devices.{device_view}
 use Rattle.genie_kernel.specs.Planned.{is_early_device}
-use Rattle.genie_kernel.specs.Regions.{has_id, owned_regions, processes_view, region_view, regions_of}
+use Rattle.genie_kernel.specs.Regions.{has_id, owned_regions, processes_view, region_view}
 use Rattle.genie_kernel.specs.Steps.{Steps}
 use Rattle.genie_kernel.specs.View.{Bytes, state_of}
 use Rattle.genie_kernel.specs.Lemmas.DeviceViews.{entry_view}

@@ -8,3 +8,5 @@ pub mod Live
 pub mod Targets
 pub mod CopyLaws
 pub mod Stored
+pub mod SwapLaws
+pub mod Failing

@@ -1,7 +1,5 @@
 -- What is answered at the end of an input.
-use Rattle.std.specs.Prelude.{ℕ, Bool, true, false, List, Option, None, Some, if◌then◌else◌}
-use Rattle.std.specs.Option.{option_map}
-use Rattle.genie_base.specs.declared.numbers.RegionId.{RegionId}
+use Rattle.std.specs.Prelude.{ℕ, Bool, false, List, Option, None, Some, if◌then◌else◌}
 use Rattle.genie_base.specs.declared.reply.Reply.{Reply}
 use Rattle.genie_base.specs.declared.reply.Reply.TheVariants as reply
 use Rattle.genie_region.specs.declared.region.Region.{Region}

@@ -1,5 +1,5 @@
 -- A buffer's bytes are stored in a range, and all its loans end.
-use Rattle.std.specs.Prelude.{◌≡◌, ◌≢◌, ℕ, ◌+◌, ◌*◌, ◌/◌, ◌%◌, ◌^◌, ◌<◌, ◌≤◌, false, List, [], length, count_by}
+use Rattle.std.specs.Prelude.{◌≡◌, ◌≢◌, ℕ, ◌+◌, ◌/◌, ◌%◌, ◌^◌, ◌<◌, ◌≤◌, false, List, length, count_by}
 use Rattle.genie_base.specs.Bytes.{overlaid}
 use Rattle.genie_base.specs.Counts.{span}
 use Rattle.genie_frame.specs.FrameTable.{counts_at, no_counts, is_system, owner_at}

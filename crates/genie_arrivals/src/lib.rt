@@ -3,6 +3,7 @@
 
 mod back;
 pub mod copy;
+pub mod gone;
 mod laws;
 mod live;
 mod owned;

@@ -20,3 +20,4 @@ pub mod Gone
 pub mod Hiding
 pub mod Turned
 pub mod Unnamed
+pub mod Released

@@ -1,5 +1,5 @@
 //! What the events join: a transfer more, one less, one changed; a region more, one less, one changed; orphans. Each on the
-//! state that a kernel stands for, and on the parts of what is true of it.
+//! state that a kernel stands for, and on the parts of what is true of it. A region that goes is removed here, too.
 #![tactic(auto)]
 
 pub mod beginning;
@@ -12,6 +12,7 @@ pub mod making;
 pub mod moving_out;
 pub mod parts;
 pub mod regions;
+pub mod released;
 pub mod removal;
 pub mod settled;
 pub mod states;

@@ -31,6 +31,7 @@ use Rattle.genie_endings.specs.Named.{named}
 use Rattle.genie_endings.specs.Serving.{IsServed}
 use Rattle.genie_endings.specs.declared.region.Placed.{Placed}
 use Rattle.genie_endings.proofs.Filled.{IsNamed, room, unlisted}
+use Rattle.genie_endings.proofs.Served.{still_sized}
 use Rattle.genie_endings.proofs.GivenUp.{IsOf, cancelled, gives_up, gone_state, is, kept, left, mid_is, settled, suits, waits}
 
 module _ (laws : EndingLaws) (k mid : Kernel) (n : ℕ) (t : Transfer) (g : IsGood k) (h : refuse (outline k) (Cancel n) ≡ None) (weak : IsOf WeakMove (find (has_number n) k.transfers)) (ends : EndsCall n k mid t) (x : Placed) (named_some : named (cancelled mid n).spaces t.owner t.region ≡ Some x) where
@@ -73,8 +74,10 @@ module _ (laws : EndingLaws) (k mid : Kernel) (n : ℕ) (t : Transfer) (g : IsGo
   served =
       let keeps : Kept k without_it = kept laws k mid n t WeakMove In refl g h weak ends in
       let whole = settled laws k mid n t WeakMove In refl g h weak ends in
+      let good : IsGood after = laws.good after (laws.turns without_it p r.id.0 Out named_as.regions (get_or k.queues p [] ++ r.id.0 ∷ []) whole named_as.there (laws.lists without_it p r.id.0 named_as.regions whole named_as.there has)) (laws.orderly (outline k) (outline after) (Cancel n) reply.Okay refl h (steps (no_bytes k.config.page) (no_bytes k.config.page) (laws.outlines k n)) g.orderly) in
       record {
-        good = laws.good after (laws.turns without_it p r.id.0 Out named_as.regions (get_or k.queues p [] ++ r.id.0 ∷ []) whole named_as.there (laws.lists without_it p r.id.0 named_as.regions whole named_as.there has)) (laws.orderly (outline k) (outline after) (Cancel n) reply.Okay refl h (steps (no_bytes k.config.page) (no_bytes k.config.page) (laws.outlines k n)) g.orderly);
+        good = good;
+        sized = still_sized k after g good refl;
         step = λ slots rests sents. steps (bytes_over k.memory slots rests sents) (bytes_over (record (k.memory) { frames = mid.memory.frames }) slots rests sents) (laws.shown k (record (k.memory) { frames = mid.memory.frames }) n t slots rests sents (laws.settled k g) ends.leaves);
         kept = record { lent = λ j f a b y. keeps.lent j f a b (record { was = y.was; is = y.is }); pooled = keeps.pooled; fresh = λ j f a b y. keeps.fresh j f a b (record { was = y.was; is = y.is }) };
         config = refl;

@@ -44,6 +44,7 @@ use Rattle.genie_endings.specs.Named.{named}
 use Rattle.genie_endings.specs.Serving.{IsServed}
 use Rattle.genie_endings.specs.declared.region.Placed.{Placed}
 use Rattle.genie_endings.proofs.Filled.{IsNamed, named_true}
+use Rattle.genie_endings.proofs.Served.{still_sized}
 use Rattle.genie_endings.proofs.GivenUp.{IsOf, cancelled, gives_up, gone_state, is, is_class, kept, left, mid_is, settled}
 use Rattle.genie_endings.proofs.Phases.{seen_as}
 
@@ -141,8 +142,10 @@ module _ (laws : EndingLaws) (removals : RemovalLaws) (k mid new : Kernel) (n : 
       let whole = settled laws k mid n t Move Held refl g h moves ends in
       let z = no_bytes k.config.page in
       let outlines : Steps (outline k) (Cancel n) (outline new) reply.Okay = subst (λ p. Steps (outline k) (Cancel n) (state_of new (no_bytes p)) reply.Okay) (sym page_same) (steps z z z (laws.outlines k n) (removals.outlines r without_it)) in
+      let good : IsGood new = laws.good new (removals.settles x.pid r without_it new removes_left whole) (laws.orderly (outline k) (outline new) (Cancel n) reply.Okay refl h outlines g.orderly) in
       record {
-        good = laws.good new (removals.settles x.pid r without_it new removes_left whole) (laws.orderly (outline k) (outline new) (Cancel n) reply.Okay refl h outlines g.orderly);
+        good = good;
+        sized = still_sized k new g good (ap (λ (j : Kernel). j.config) removes_left.left);
         step = λ slots rests sents. steps (bytes_over k.memory slots rests sents) (bytes_over (record (k.memory) { frames = mid.memory.frames }) slots rests sents) (bytes_over new.memory slots rests sents) (laws.shown k (record (k.memory) { frames = mid.memory.frames }) n t slots rests sents (laws.settled k g) ends.leaves) (removals.shows x.pid r without_it new slots rests sents removes_left whole);
         kept = keeps_all;
         config = ap (λ (j : Kernel). j.config) removes_left.left;

@@ -5,8 +5,10 @@ mod Copying
 mod Enlarged
 mod Holding
 mod Lending
+mod MovedIn
 mod Placing
 mod Readied
+mod Refilling
 mod Sharing
 mod Targeting
 mod Weakly

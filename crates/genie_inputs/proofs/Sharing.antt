@@ -46,7 +46,7 @@ use Rattle.genie_changes.specs.Making.{with_memory}
 use Rattle.genie_changes.specs.Removing.{FitsTables, GoodRegionsFit}
 use Rattle.genie_inputs.specs.Calls.{input_event, transfer_of}
 use Rattle.genie_inputs.specs.InputLaws.{InputLaws}
-use Rattle.genie_inputs.specs.Places.{LendsPages, LendsPlan, MayFill}
+use Rattle.genie_inputs.specs.Places.{LendsPages, LendsPlan}
 use Rattle.genie_inputs.specs.Posting.{CanPost, IsAnswered, with_input}
 use Rattle.genie_inputs.specs.Targets.{Reaches}
 use Rattle.genie_inputs.proofs.Readied.{ready_moved}
@@ -96,11 +96,11 @@ share_posts k c a r off loans is x b s =
 pub same_view : (k : Kernel) (m : Memory) (u v : StoreView) → seen_with m v ≡ seen_with k.memory u → (host : HostView) → view (record k { memory = m }) host v ≡ view k host u
 same_view k m u v e host = ap (λ s. option_map (state_of k) (bytes_with s (rests_of host k.config) (sents_of host k.config))) e
 
-pub share_answers : WiresKeep → InputLaws → (old mid new : Kernel) (c : Call) (a : ℕ) (r : Region) (off : ℕ) (basic : Bool) (loans : Loans) (v w : StoreView) → IsGood old → class_of c.sem ≡ Share → basic ≡ not (is_emulated c.sem) → refuse (outline old) (input_event c (Some a)) ≡ None → Reaches old c a r off → LendsPages old mid v w r.object.0 off c.len basic loans → new ≡ with_input mid (transfer_of c (record { 0 = old.next }) 0 (Some r.id) off loans)
+pub share_answers : WiresKeep → InputLaws → (old mid new : Kernel) (c : Call) (a : ℕ) (r : Region) (off : ℕ) (basic : Bool) (loans : Loans) (v w : StoreView) → IsGood old → class_of c.sem ≡ Share → basic ≡ not (is_emulated c.sem) → refuse (outline old) (input_event c (Some a)) ≡ None → Reaches old c a r off → LendsPages old mid v w r off c.len basic loans → new ≡ with_input mid (transfer_of c (record { 0 = old.next }) 0 (Some r.id) off loans)
     → IsAnswered old new v w (input_event c (Some a)) (reply.Id old.next)
 share_answers wires laws old mid new c a r off basic loans v w good is basic_is accepted x lends posts = by loans posts lends.plan
   where
-    by : (ls : Loans) → new ≡ with_input mid (transfer_of c (record { 0 = old.next }) 0 (Some r.id) off ls) → LendsPlan r.object.0 off c.len basic lends.mid mid.memory ls → IsAnswered old new v w (input_event c (Some a)) (reply.Id old.next)
+    by : (ls : Loans) → new ≡ with_input mid (transfer_of c (record { 0 = old.next }) 0 (Some r.id) off ls) → LendsPlan r off c.len basic lends.mid mid.memory ls → IsAnswered old new v w (input_event c (Some a)) (reply.Id old.next)
     by Nothing e plan = absurd plan
     by (Outward p) e plan = absurd plan
     by (ways.Inward p) e plan =
@@ -113,8 +113,8 @@ share_answers wires laws old mid new c a r off basic loans v w good is basic_is 
         subst (λ (z : Kernel). IsAnswered old z v w (input_event c (Some a)) (reply.Id old.next)) (sym (e ∙ ap (λ (z : Kernel). with_input z t) lends.only))
         (posted_answers laws y mid.memory mid.memory t (input_event c (Some a)) lends.moved.good
         (record { number = refl; phase = refl; unstored = refl; unbuffered = refl })
-        (weak_begins wires laws.weak y mid.memory c (record { 0 = old.next }) r off p basic lends.moved.good owned x.writable weak uncopied basic_is plan may.device)
-        (weak_named wires laws.weak y mid.memory c (record { 0 = old.next }) r off p basic lends.moved.good owned x.writable weak uncopied basic_is plan may.device)
+        (weak_begins wires laws.weak y mid.memory c (record { 0 = old.next }) r off p basic lends.moved.good owned weak uncopied basic_is plan may.device)
+        (weak_named wires laws.weak y mid.memory c (record { 0 = old.next }) r off p basic lends.moved.good owned weak uncopied basic_is plan may.device)
         (λ slots. shows_itself y mid.memory slots)
         (share_whole c a is) accepted (share_posts y c a r off (ways.Inward p) is (record { found = x.found; writable = x.writable; place = x.place; inside = x.inside }))
         old v lends.middle w (ready_moved old y v lends.middle lends.moved) (same_view y mid.memory lends.middle w lends.shows) lends.sized)
@@ -131,8 +131,8 @@ share_room law k c a r off good is accepted x =
     (omega (arith, pages, same), omega (arith, cost, same))
 
 -- and for the transfer
-pub share_can_post : InputLaws → (old mid : Kernel) (c : Call) (a o off : ℕ) (basic : Bool) (loans : Loans) (v w : StoreView) → IsGood old → refuse (outline old) (input_event c (Some a)) ≡ None → LendsPages old mid v w o off c.len basic loans → (t : Transfer) → t.id.0 ≡ old.next → CanPost mid t.id.0
-share_can_post laws old mid c a o off basic loans v w good accepted lends t is =
+pub share_can_post : InputLaws → (old mid : Kernel) (c : Call) (a : ℕ) (r : Region) (off : ℕ) (basic : Bool) (loans : Loans) (v w : StoreView) → IsGood old → refuse (outline old) (input_event c (Some a)) ≡ None → LendsPages old mid v w r off c.len basic loans → (t : Transfer) → t.id.0 ≡ old.next → CanPost mid t.id.0
+share_can_post laws old mid c a r off basic loans v w good accepted lends t is =
     let may = may_input old c (Some a) good accepted in
     let can = can_post laws.rise old good may.few in
     subst (CanPost mid) (sym is)
@@ -155,5 +155,5 @@ share_fits law k c a r off good x =
     let inside = x.inside in
     omega (arith, inside, most)
 
-pub share_fills : (k : Kernel) (c : Call) (a : ℕ) (r : Region) (off : ℕ) → Reaches k c a r off → MayFill k r
-share_fills k c a r off x = record { owned = reached_owned k c.pid a c.len r x.found; writable = x.writable }
+pub share_owned : (k : Kernel) (c : Call) (a : ℕ) (r : Region) (off : ℕ) → Reaches k c a r off → Has r (owned_regions k.spaces.processes)
+share_owned k c a r off x = reached_owned k c.pid a c.len r x.found

@@ -1,7 +1,8 @@
 -- A weak input whose pages are lent in place.
-use Rattle.std.proofs.Common.{◌≡◌, ℕ, ◌+◌, ◌/◌, ◌<◌, Bool, true, false, List, refl, sym, ap, subst, arith, rules, ◌∙◌, get_or, ⊎_elim, eqb-true}
+use Rattle.std.proofs.Common.{◌≡◌, ℕ, ◌+◌, ◌/◌, ◌<◌, Bool, true, false, List, refl, sym, ap, subst, arith, rules, ◌∙◌, get_or, ⊎_elim, eqb-true, inl, inr}
 use Rattle.std.specs.Prelude.{Some, None, unwrap_or, not, nat_le, nat_lt, ◌==◌, ◌&&◌, if◌then◌else◌}
 use Rattle.std.proofs.lemmas.Bool.{cases_Bool, eq-eqb}
+use Rattle.std.proofs.lemmas.Bool.Decides.{eqb_tells}
 use Rattle.genie_base.specs.Counts.{span}
 use Rattle.genie_base.specs.Transfers.{class_of, is_strong, is_emulated}
 use Rattle.genie_base.specs.declared.numbers.TransferId.{TransferId}
@@ -11,7 +12,8 @@ use Rattle.genie_frame.specs.FrameTable.{FrameTable, counts_at, is_held}
 use Rattle.genie_input.specs.Lending.{HasLent}
 use Rattle.genie_object.specs.declared.memory.Memory.{Memory}
 use Rattle.genie_object.specs.declared.objects.Entry.{Entry}
-use Rattle.genie_object.specs.Memory.{entry_frame}
+use Rattle.genie_object.specs.Memory.{entry_frame, frame_of}
+use Rattle.genie_object.specs.Objects.{entry_at}
 use Rattle.genie_object.specs.Sound.{IsCached, FitsHidden}
 use Rattle.genie_object.specs.Touching.{KeepsLoans, Touches, is_in_range}
 use Rattle.genie_object.specs.Lemmas.Touching.{keeps_on}
@@ -36,10 +38,12 @@ use Rattle.genie_kernel.specs.Lending.{LendsFor}
 use Rattle.genie_kernel.specs.Orphans.{is_owned}
 use Rattle.genie_kernel.specs.Planned.{Lends, LendsInput, LendsRange, FitsDevice, is_early_device}
 use Rattle.genie_kernel.specs.Regions.{has_id, owned_regions}
-use Rattle.genie_kernel.specs.Lemmas.Keeping.{guards_kept, hidden_kept}
+use Rattle.genie_kernel.specs.Lemmas.Keeping.{hidden_kept}
 use Rattle.genie_changes.specs.Beginning.{Begins, WeakBegins}
 use Rattle.genie_changes.specs.Lemmas.Once.{same_object}
 use Rattle.genie_changes.specs.Lemmas.Outside.{unhidden}
+use Rattle.genie_spaces.specs.Lemmas.Forbidding.{narrowed_keeps, narrowed_sound, narrowed_touches, with_entries}
+use Rattle.genie_spaces.specs.Permissions.{Guards, NarrowsAll}
 use Rattle.genie_inputs.specs.declared.call.Call.{Call}
 use Rattle.genie_inputs.specs.Calls.{transfer_of}
 use Rattle.genie_inputs.specs.Places.{LendsRangeOf, Wires, wired_frames}
@@ -69,7 +73,11 @@ wired_fits m t frames objects w f = record { cached = λ j l. wired_cached m t f
 not_one : (a b : ℕ) → (a ≡ b → ⊥) → (a == b) ≡ false
 not_one a b never = ⊎_elim (λ (e : (a == b) ≡ true). absurd (never (eqb-true a b e))) (λ e. e) (cases_Bool (a == b))
 
--- calls on pages of a region that may be written leave hidden regions and read-only ones as they are
+still : (p q : Bool) → (p ≡ true → q ≡ true) → q ≡ false → p ≡ false
+still true q f e = let t = f refl in cc
+still false q f e = refl
+
+-- calls on pages of a region leave hidden regions and other regions' permissions as they are
 module _ (k : Kernel) (m : Memory) (r : Region) (first n : ℕ) (good : IsGood k) (owned : Has r (owned_regions k.spaces.processes)) (keeps : KeepsLoans k.memory m) (touches : Touches (is_in_range r.object.0 first n) k.memory m) where
   out_of_range : (q i : ℕ) → (q ≡ r.object.0 → ⊥) → is_in_range r.object.0 first n q i ≡ false
   out_of_range q i never = ap (λ b. b && nat_le first i && nat_lt i (first + n)) (not_one q r.object.0 never)
@@ -79,17 +87,21 @@ module _ (k : Kernel) (m : Memory) (r : Region) (first n : ℕ) (good : IsGood k
       (λ q i among. out_of_range q i (λ same. let clash : true ≡ false = sym among ∙ ap (λ z. is_among z (objects_of k.hidden)) same ∙ unhidden k good r owned in absurd (cc)))
       good.cached
 
-  pub touched_guarded : r.writable ≡ true → AreGuarded m.objects (owned_regions k.spaces.processes)
-  touched_guarded writable = guards_kept (is_in_range r.object.0 first n) k.memory m (owned_regions k.spaces.processes) touches
-      (λ j d l shut i.
+  -- once the region has no permission more than it may have
+  pub touched_guarded : (os : List (List Entry)) → Guards r.object.0 r.writable m.objects os → AreGuarded os (owned_regions k.spaces.processes)
+  touched_guarded os guards = λ j d l shut i.
       let q = get_or (owned_regions k.spaces.processes) j d in
-      out_of_range q.object.0 i (λ same.
-      let one = same_object k q r good (has_at (owned_regions k.spaces.processes) j d l) owned same in
-      let clash : false ≡ true = sym shut ∙ ap (λ (y : Region). y.writable) one ∙ writable in
-      absurd (cc)))
-      good.guarded
+      elim (eqb_tells q.object.0 r.object.0) [
+        | inl e ↦
+            let one = same_object k q r good (has_at (owned_regions k.spaces.processes) j d l) owned e.1 in
+            ap (λ o. (entry_at os o i).writable) e.1 ∙ guards.shut (sym (ap (λ (y : Region). y.writable) one) ∙ shut) i
+        | inr e ↦
+            let spoken = ap (λ b. b && nat_le first i && nat_lt i (first + n)) e.0 in
+            let was = still (entry_at m.objects q.object.0 i).writable (entry_at k.memory.objects q.object.0 i).writable (touches.entries q.object.0 i spoken).writable (good.guarded j d l shut i) in
+            still (entry_at os q.object.0 i).writable (entry_at m.objects q.object.0 i).writable (guards.all.narrows q.object.0 i).writable was
+      ]
 
-module _ (law : WiresKeep) (lent m : Memory) (basic : Bool) (p : InPlan) (old : Memory) (spoken : ℕ → ℕ → Bool) (o i : ℕ) (loans : HasLent kind.Input spoken o i (input_loans p.loans.items) old lent) (wires : Wires basic (input_frames p.loans.items) lent m) where
+module _ (law : WiresKeep) (lent m : Memory) (os : List (List Entry)) (narrow : NarrowsAll lent.objects os) (basic : Bool) (p : InPlan) (old : Memory) (spoken : ℕ → ℕ → Bool) (o i : ℕ) (loans : HasLent kind.Input spoken o i (input_loans p.loans.items) old lent) (wires : Wires basic (input_frames p.loans.items) (with_entries lent os) m) where
   pub lent_counts : (f : ℕ) → counts_at lent.frames f ≡ record (counts_at old.frames f) { input = (counts_at old.frames f).input + times (input_frames p.loans.items) f }
   lent_counts f =
       let c0 = counts_at old.frames f in
@@ -102,10 +114,10 @@ module _ (law : WiresKeep) (lent m : Memory) (basic : Bool) (p : InPlan) (old : 
   lent_held f l = ap is_held (lent_counts f) ∙ held_more (counts_at old.frames f) (times (input_frames p.loans.items) f) l
 
   -- wires on them change nothing but counts of wires
-  pub wires_kept : KeepsAll lent m
-  wires_kept = subst (KeepsAll lent) (sym wires.only) (law lent m.frames (wired_frames basic (input_frames p.loans.items)) loans.sound wires.wired (λ f l. lent_held f (wired_some basic (input_frames p.loans.items) f l)))
+  pub wires_kept : KeepsAll (with_entries lent os) m
+  wires_kept = subst (KeepsAll (with_entries lent os)) (sym wires.only) (law (with_entries lent os) m.frames (wired_frames basic (input_frames p.loans.items)) (narrowed_sound lent os narrow loans.sound) wires.wired (λ f l. lent_held f (wired_some basic (input_frames p.loans.items) f l)))
 
-module _ (wires : WiresKeep) (law : WeakBegins) (k : Kernel) (m : Memory) (c : Call) (id : TransferId) (r : Region) (off : ℕ) (p : InPlan) (basic : Bool) (good : IsGood k) (owned : Has r (owned_regions k.spaces.processes)) (writable : r.writable ≡ true) (weak : is_strong (class_of c.sem) ≡ false) (uncopied : is_copy_input (class_of c.sem) Inward ≡ false) (basic_is : basic ≡ not (is_emulated c.sem)) (x : LendsRangeOf r.object.0 off c.len basic k.memory m p) (device : FitsDevice c.len (entry k.devices c.dev)) where
+module _ (wires : WiresKeep) (law : WeakBegins) (k : Kernel) (m : Memory) (c : Call) (id : TransferId) (r : Region) (off : ℕ) (p : InPlan) (basic : Bool) (good : IsGood k) (owned : Has r (owned_regions k.spaces.processes)) (weak : is_strong (class_of c.sem) ≡ false) (uncopied : is_copy_input (class_of c.sem) Inward ≡ false) (basic_is : basic ≡ not (is_emulated c.sem)) (x : LendsRangeOf r off c.len basic k.memory m p) (device : FitsDevice c.len (entry k.devices c.dev)) where
   abbrev t : Transfer
   t = transfer_of c id 0 (Some r.id) off (ways.Inward p)
 
@@ -127,16 +139,24 @@ module _ (wires : WiresKeep) (law : WeakBegins) (k : Kernel) (m : Memory) (c : C
   abbrev spoken : ℕ → ℕ → Bool
   spoken = is_in_range o first many
 
-  all_kept : KeepsAll x.lent m
-  all_kept = wires_kept wires x.lent m basic p k.memory spoken o first x.loans x.wires
+  abbrev narrow : NarrowsAll x.lent.objects x.entries
+  narrow = x.guards.all
+
+  abbrev shut : Memory
+  shut = with_entries x.lent x.entries
+
+  all_kept : KeepsAll shut m
+  all_kept = wires_kept wires x.lent m x.entries narrow basic p k.memory spoken o first x.loans x.wires
 
   cached : FitsHidden m (objects_of k.hidden)
   cached = subst (λ n. FitsHidden n (objects_of k.hidden)) (sym x.wires.only)
-      (wired_fits x.lent m.frames (wired_frames basic frames) (objects_of k.hidden) x.wires.wired (touched_cached k x.lent r first many good owned x.loans.keeps x.loans.touches))
+      (wired_fits shut m.frames (wired_frames basic frames) (objects_of k.hidden) x.wires.wired
+      (hidden_kept (λ a b. false) x.lent shut (objects_of k.hidden) x.loans.sound (narrowed_keeps x.lent x.entries narrow) (narrowed_touches x.lent x.entries narrow) (λ a b among. refl)
+      (touched_cached k x.lent r first many good owned x.loans.keeps x.loans.touches)))
 
   guarded : AreGuarded m.objects regions
   guarded = subst (λ (es : List (List Entry)). AreGuarded es regions) (sym (ap (λ (n : Memory). n.objects) x.wires.only))
-      (touched_guarded k x.lent r first many good owned x.loans.keeps x.loans.touches writable)
+      (touched_guarded k x.lent r first many good owned x.loans.keeps x.loans.touches x.entries x.guards)
 
   page_is : x.lent.frames.page ≡ k.config.page
   page_is = x.loans.keeps.page ∙ good.sized.page
@@ -156,7 +176,7 @@ module _ (wires : WiresKeep) (law : WeakBegins) (k : Kernel) (m : Memory) (c : C
   begins = ap (λ b. unwrap_or (if b then Some 0 else None) off) uncopied
 
   frame_same : (i : ℕ) → entry_frame m o i ≡ entry_frame x.lent o i
-  frame_same i = ap (λ (n : Memory). entry_frame n o i) x.wires.only
+  frame_same i = ap (λ (n : Memory). entry_frame n o i) x.wires.only ∙ ap (frame_of x.lent.pages.pages) (narrow.narrows o i).page
 
   plan : Lends k.config.page m.frames.owners (is_early_device (entry k.devices c.dev)) t Inward
   plan = subst (LendsInput k.config.page m.frames.owners (is_early_device (entry k.devices c.dev)) t) (sym weak)
@@ -168,14 +188,14 @@ module _ (wires : WiresKeep) (law : WeakBegins) (k : Kernel) (m : Memory) (c : C
     sound = all_kept.sound;
     cached = cached;
     guarded = guarded;
-    keeps = keeps_on k.memory x.lent m x.loans.keeps all_kept.loans;
+    keeps = keeps_on k.memory x.lent m x.loans.keeps (keeps_on x.lent shut m (narrowed_keeps x.lent x.entries narrow) all_kept.loans);
     lends = lends;
     lies = record {
       weak = weak;
       named = refl;
       owned = owned;
       placed = λ j l. frame_same (off / k.config.page + j) ∙ subst (λ page. entry_frame x.lent o (off / page + j) ≡ Some (get_or frames j 0)) page_is (x.lies.of_entries j l);
-      held = λ j l. all_kept.loans.held (get_or frames j 0) (lent_held wires x.lent m basic p k.memory spoken o first x.loans x.wires (get_or frames j 0) (times_at frames j l));
+      held = λ j l. all_kept.loans.held (get_or frames j 0) (lent_held wires x.lent m x.entries narrow basic p k.memory spoken o first x.loans x.wires (get_or frames j 0) (times_at frames j l));
     };
     plan = plan;
     device = device;

@@ -1,7 +1,8 @@
 -- What input calls stand on.
 use Rattle.genie_kernel.specs.Laws.{ViewIsTidy}
 use Rattle.genie_kernel.specs.Steps.{StaysOrderly, AloneIsTold}
-use Rattle.genie_changes.specs.Removing.{GoodRegionsFit, GoodTransfersRise}
+use Rattle.genie_changes.specs.Regions.{SpacedStay}
+use Rattle.genie_changes.specs.Removing.{GoodIsListedIn, GoodIsOnlyIn, GoodRegionsFit, GoodTransfersRise}
 use Rattle.genie_changes.specs.States.{AddedState}
 use Rattle.genie_room.specs.Frames.{CallsCanBegin}
 use Rattle.genie_changes.specs.Beginning.{PartsMakeGood, NewWaitsBehind, BegunHasParts, BegunIsKept, WeakBegins}
@@ -11,6 +12,9 @@ pub record InputLaws : Type 0 where
   pub room : CallsCanBegin
   pub rise : GoodTransfersRise
   pub small : GoodRegionsFit
+  pub only : GoodIsOnlyIn
+  pub listed : GoodIsListedIn
+  pub spaced : SpacedStay
   pub tidied : ViewIsTidy
   pub orderly : StaysOrderly
   pub alone : AloneIsTold

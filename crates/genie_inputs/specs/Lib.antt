@@ -5,4 +5,5 @@ pub mod Places
 pub mod Placing
 pub mod Posting
 pub mod Ready
+pub mod Reusing
 pub mod Targets

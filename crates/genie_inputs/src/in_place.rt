@@ -8,9 +8,11 @@ ghost use Rattle.genie_object.specs.Costs.{AreBelow};
 ghost use Rattle.genie_object.specs.Objects.{object_at};
 ghost use Rattle.genie_object.specs.Sound.{IsSound, IsSized};
 ghost use Rattle.genie_plan.specs.Plans.{times, input_frames};
+ghost use Rattle.genie_model.specs.Lemmas.Lists.{Has};
 ghost use Rattle.genie_kernel.specs.Good.{IsGood};
+ghost use Rattle.genie_kernel.specs.Regions.{owned_regions};
 ghost use Rattle.genie_changes.specs.Making.{IsMoved};
-ghost use Rattle.genie_inputs.specs.Places.{CanBeWired, LendsPages, MayFill, Wires};
+ghost use Rattle.genie_inputs.specs.Places.{CanBeWired, LendsPages, Wires};
 
 use crate::room::make_free;
 use genie_changes::making::{memory_moves, moves_join};
@@ -20,6 +22,7 @@ use genie_object::{Memory, Range};
 use genie_plan::laws::wires_show_what_was_seen;
 use genie_plan::{InPlan, page_count, wire_inputs};
 use genie_region::Region;
+use genie_spaces::protect::guard;
 use genie_store::{Store, StoreFault};
 
 // Wires the frames of a plan, where the call is a basic one.
@@ -32,7 +35,8 @@ fn wire_plan(memory: &mut Memory, plan: &InPlan, basic: bool)
     }
 }
 
-// Makes room, and lends the pages of the `len` bytes from place `off` of a region on. A basic call wires them besides.
+// Makes room, and lends the pages of the `len` bytes from place `off` of a region on, which gets no permission by that. A
+// basic call wires them besides.
 pub(crate) fn lend_in_place<S: Store>(
     kernel: &mut Kernel,
     store: &mut S,
@@ -44,12 +48,12 @@ pub(crate) fn lend_in_place<S: Store>(
     requires good { IsGood kernel.old }
     requires sized { IsSized kernel.old.memory (S.view store.old) }
     requires meters { AreBelow (2 ^ 63) kernel.old.memory.frames.meters }
-    requires region { MayFill kernel.old region }
+    requires owned { Has region (owned_regions kernel.old.spaces.processes) }
     requires fits { off + len < 2 ^ 32 }
     requires within { off / kernel.old.config.page + span kernel.old.config.page off len ≤ length (object_at kernel.old.memory.objects region.object.0) }
     requires most { span kernel.old.config.page off len ≤ 65 }
     requires frames { span kernel.old.config.page off len ≤ available kernel.old.memory.frames }
-    ensures lends { IfOk result (LendsPages kernel.old kernel.new (S.view store.old) (S.view store.new) region.object.0 off len basic) }
+    ensures lends { IfOk result (LendsPages kernel.old kernel.new (S.view store.old) (S.view store.new) region off len basic) }
     ensures moved { OnErr result (IsMoved kernel.old kernel.new (S.view store.old) (S.view store.new)) }
     ensures cause { HasCause (S.view store.old).faults (S.view store.new).faults result }
 {
@@ -66,7 +70,9 @@ pub(crate) fn lend_in_place<S: Store>(
         off,
         len,
     };
-    match in_place(&mut kernel.memory, store, &range) {
+    let lent = in_place(&mut kernel.memory, store, &range);
+    guard(&mut kernel.memory.objects, region.object, region.writable);
+    match lent {
         Ok(plan) => {
             wire_plan(&mut kernel.memory, &plan, basic);
             Ok(Loans::Inward(plan))

@@ -5,6 +5,7 @@ use genie_changes::beginning::{
     new_ones_wait, parts_make_good, transfers_begin, weak_transfers_begin,
 };
 use genie_changes::given::{numbers_differ, regions_fit};
+use genie_changes::regions::spaced_tables;
 use genie_changes::states::added_state;
 use genie_kernel::laws::{accepted_events_step, view_is_tidy};
 use genie_room::laws::calls_can_begin;
@@ -16,6 +17,7 @@ pub(crate) fn input_laws()
     calls_can_begin();
     numbers_differ();
     regions_fit();
+    spaced_tables();
     view_is_tidy();
     accepted_events_step();
     added_state();

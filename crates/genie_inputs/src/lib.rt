@@ -9,6 +9,7 @@ mod in_place;
 mod laws;
 mod place;
 mod posting;
+pub mod refill;
 mod room;
 pub mod share;
 mod target;

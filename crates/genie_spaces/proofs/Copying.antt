@@ -1,5 +1,5 @@
 -- The regions of a child, made one after another.
-use Rattle.std.proofs.Common.{◌≡◌, ◌≢◌, ℕ, ◌+◌, ◌*◌, ◌<◌, ◌≤◌, zero, suc, Bool, true, false, not, cond, List, [], ◌∷◌, ◌++◌, refl, sym, ap, ap₂, subst, arith, rules, ◌∙◌, map, length, filter, find, take, set, get_or, get_or-set_other, get_or-set_same, length-set, replicate, inl, inr, ⊎_elim, eq-eqb, eqb-true}
+use Rattle.std.proofs.Common.{◌≡◌, ◌≢◌, ℕ, ◌+◌, ◌<◌, ◌≤◌, zero, suc, Bool, true, false, not, cond, List, [], ◌∷◌, ◌++◌, refl, sym, ap, ap₂, subst, arith, rules, ◌∙◌, map, length, filter, find, take, set, get_or, get_or-set_other, get_or-set_same, length-set, replicate, inl, inr, ⊎_elim, eq-eqb, eqb-true}
 use Rattle.std.specs.Prelude.{Option, Some, None, is_some, nat_lt, ◌==◌, ◌||◌, ◌&&◌, count_by, flat_map, slice_get, unwrap_or}
 use Rattle.std.specs.List.{AllPairs, list_any, range_with_len}
 use Rattle.std.proofs.lemmas.Bool.{cases_Bool, cond_both, not-false, or_parts}
@@ -43,7 +43,7 @@ use Rattle.genie_spaces.specs.Forking.{AddsCopy, HasCopies, IsSource, ShowsSourc
 use Rattle.genie_spaces.specs.RegionLaws.{RegionLaws}
 use Rattle.genie_spaces.proofs.Beside.{any_added, free_behind, fresh_new, from_added, inside, length_added, to_added}
 use Rattle.genie_spaces.proofs.Keeping.{keeps_bytes}
-use Rattle.genie_spaces.proofs.Making.{entry_made}
+use Rattle.genie_spaces.specs.Lemmas.Making.{entry_made}
 use Rattle.genie_spaces.proofs.Numbering.{has_owned}
 
 -- what is known of a fork that isn't refused, once the child has no hidden regions

@@ -14,3 +14,5 @@ mod Exited
 mod Beside
 mod Copying
 mod Ready
+mod Forked
+mod Ended

@@ -1,6 +1,6 @@
 -- The kernel with a child whose pages are untouched: it is good, and their copying can't want for room.
 use Rattle.std.proofs.Common.{◌≡◌, ◌≢◌, ℕ, ◌+◌, ◌*◌, ◌-◌, ◌^◌, ◌<◌, ◌≤◌, zero, suc, Bool, true, false, not, cond, List, [], ◌∷◌, ◌++◌, refl, sym, ap, ap₂, subst, arith, rules, ◌∙◌, map, length, length-set, filter, find, take, set, get_or, get_or-set_same, replicate, inl, inr, ⊎_elim, eq-eqb, eqb-true}
-use Rattle.std.specs.Prelude.{Option, Some, None, All, ◌==◌, ◌||◌, ◌&&◌, count_by, sum_by, nat_lt, if◌then◌else◌}
+use Rattle.std.specs.Prelude.{Option, Some, None, All, ◌==◌, count_by, sum_by, nat_lt, if◌then◌else◌}
 use Rattle.std.specs.List.{AllPairs, list_any}
 use Rattle.std.proofs.lemmas.Bool.{cases_Bool, cond_both}
 use Rattle.std.proofs.lemmas.List.{take_all}
@@ -14,28 +14,25 @@ use Rattle.genie_hiding.specs.Lemmas.Naming.{cached_at, fits_kept, names_page}
 use Rattle.genie_hiding.specs.Lemmas.Searching.{count_found}
 use Rattle.genie_object.specs.declared.memory.Memory.{Memory}
 use Rattle.genie_object.specs.declared.objects.Entry.{Entry}
-use Rattle.genie_object.specs.Leaving.{IsEmpty}
-use Rattle.genie_object.specs.Memory.{Seen, entry_frame, frame_of, page_bytes, seen}
+use Rattle.genie_object.specs.Memory.{entry_frame, frame_of, page_bytes, seen}
 use Rattle.genie_object.specs.Objects.{entry_at, is_absent, names, no_entry, object_at}
 use Rattle.genie_object.specs.Pages.{page_at}
-use Rattle.genie_object.specs.Sound.{FitsHidden, IsSound, times_named}
-use Rattle.genie_object.specs.Touching.{KeepsLoans, Touches}
+use Rattle.genie_object.specs.Sound.{FitsHidden, IsSound}
+use Rattle.genie_object.specs.Touching.{Touches}
 use Rattle.genie_region.specs.declared.region.Region.{Region}
 use Rattle.genie_region.specs.Layouts.{starts_at}
 use Rattle.genie_space.specs.Translations.{IsBacked}
-use Rattle.genie_space.specs.Spaces as spaces
-use Rattle.genie_sharing.specs.Copying.{IsRoomy, StaysRoomy}
+use Rattle.genie_sharing.specs.Copying.{StaysRoomy}
 use Rattle.genie_sharing.specs.Regions.{AreCopies, IsCopyOf, has_object}
 use Rattle.genie_model.specs.Lemmas.Lists.{Has, all_has, has_at, has_either, has_left, has_right, find_has}
 use Rattle.genie_model.specs.Refusing.{refuse}
 use Rattle.genie_model.specs.Regions.{regions_at}
 use Rattle.genie_model.specs.Space.{accessible, add_copies, spawned, tidy}
-use Rattle.genie_model.specs.State as flat
 use Rattle.genie_model.specs.Step.{accept}
 use Rattle.genie_model.specs.Tables.{entry}
 use Rattle.genie_kernel.specs.declared.kernel.Kernel.{Kernel}
 use Rattle.genie_kernel.specs.declared.transfer.Transfer.{Transfer}
-use Rattle.genie_kernel.specs.Backed.{AreBacked, AreGuarded, all_regions, has_object as has_region_object, hidden_region}
+use Rattle.genie_kernel.specs.Backed.{AreGuarded, all_regions, has_object as has_region_object, hidden_region}
 use Rattle.genie_kernel.specs.Good.{IsGood}
 use Rattle.genie_kernel.specs.Held.{AreHeldPages, IsInFrame, page_of_loan, region_named, weak_transfers}
 use Rattle.genie_kernel.specs.Loans.{frames_of}
@@ -47,7 +44,7 @@ use Rattle.genie_kernel.specs.Lemmas.Tidying.{tidy_view}
 use Rattle.genie_changes.specs.Removing.{FitsTables, GoodRegionsFit}
 use Rattle.genie_room.specs.Frames.{FourAreAvailable}
 use Rattle.genie_room.specs.Rooms.{RoomIsKept}
-use Rattle.genie_spaces.specs.Forking.{HasCopies, IsSource, ShowsSource, is_forked, with_child, with_entries}
+use Rattle.genie_spaces.specs.Forking.{HasCopies, ShowsSource, is_forked, with_child, with_entries}
 use Rattle.genie_spaces.specs.RegionLaws.{RegionLaws}
 use Rattle.genie_spaces.proofs.Beside.{count_owned, has_owned_set, inside}
 use Rattle.genie_spaces.proofs.Copying.{MayFork}

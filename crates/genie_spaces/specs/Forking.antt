@@ -1,17 +1,18 @@
 -- A process that begins as a copy of another one.
 use Rattle.std.specs.Prelude.{◌≡◌, ℕ, ◌+◌, ◌<◌, ◌≤◌, Bool, true, false, List, [], not, count_by, length, map, filter, find, take, replicate, Some, slice_index_or, slice_set}
 use Rattle.std.specs.List.{list_any}
-use Rattle.genie_base.specs.Regions.{is_accessible}
+use Rattle.genie_base.specs.Regions.{AreInOrder, is_accessible}
 use Rattle.genie_base.specs.declared.numbers.ObjectId.{ObjectId}
 use Rattle.genie_base.specs.declared.numbers.RegionId.{RegionId}
 use Rattle.genie_base.specs.declared.region.RegionState.TheVariants.{Live}
-use Rattle.genie_hiding.specs.Hidden.{objects_of}
+use Rattle.genie_hiding.specs.Hidden.{is_of, objects_of}
 use Rattle.genie_object.specs.declared.memory.Memory.{Memory}
 use Rattle.genie_object.specs.declared.objects.Entry.{Entry}
+use Rattle.genie_object.specs.Leaving.{IsUnheld}
 use Rattle.genie_object.specs.Objects.{entry_at, is_absent, no_entry, object_at}
 use Rattle.genie_object.specs.Sound.{IsSound}
 use Rattle.genie_region.specs.declared.region.Region.{Region}
-use Rattle.genie_region.specs.Layouts.{starts_at}
+use Rattle.genie_region.specs.Layouts.{extent, starts_at}
 use Rattle.genie_space.specs.Spaces.{is_alive, regions_of, set_regions}
 use Rattle.genie_sharing.specs.Regions.{AreCopies, has_object}
 use Rattle.genie_model.specs.Lemmas.Lists.{Has}
@@ -21,6 +22,7 @@ use Rattle.genie_kernel.specs.Backed.{AreBacked, AreFew, all_regions}
 use Rattle.genie_kernel.specs.Good.{IsGood}
 use Rattle.genie_kernel.specs.Regions.{owned_regions, region_view}
 use Rattle.genie_kernel.specs.View.{Bytes, state_of}
+use Rattle.genie_spaces.specs.Clearing.{Clears}
 use Rattle.genie_changes.specs.Regions.{FindsNamed, with_added}
 
 -- the kernel with a process more, which has these regions and an empty queue
@@ -79,3 +81,16 @@ pub record CanCopyPages (k : Kernel) (p child : ℕ) (copies : List Region) : Ty
   pub good : IsGood (with_child k child copies)
   pub spare : count_by (λ o. not (is_absent o)) k.memory.objects ≤ 512
   pub are : AreCopies k.memory (objects_of k.hidden) (regions_of p k.spaces) copies
+
+-- each page of the child is that of the parent's region which starts where its own does, unless a device holds that page
+abbrev pub SharesPages : Kernel → ℕ → ℕ → Type 0
+SharesPages k p child = (c r : Region) (i : ℕ) → Has c (regions_of child k.spaces) → find (starts_at c.start) (regions_of p k.spaces) ≡ Some r → i < r.pages → IsUnheld k.memory r.object.0 i → (entry_at k.memory.objects c.object.0 i).page ≡ (entry_at k.memory.objects r.object.0 i).page
+
+-- the hidden regions of the child were dropped, and the copies made
+pub record Begins (old new : Kernel) (p child : ℕ) (copies : List Region) : Type 0 where
+  pub cleared : Kernel
+  pub clears : Clears old cleared
+  pub unhidden : count_by (is_of child) cleared.hidden ≡ 0
+  pub only : new ≡ record cleared { memory = with_entries cleared new.memory.objects }
+  pub ordered : AreInOrder extent (regions_of p cleared.spaces)
+  pub made : HasCopies cleared child (regions_of p cleared.spaces) (length (regions_of p cleared.spaces)) copies new.memory.objects

@@ -1,6 +1,6 @@
 //! The regions of a process that begins as a copy of another one, before their pages are copied.
 ghost use Rattle.std.specs.Prelude.{◌≡◌, ◌<◌, ◌≤◌, IsNone, IsTrue, length, count_by, not, None};
-ghost use Rattle.genie_base.specs.Regions.{is_free};
+ghost use Rattle.genie_base.specs.Regions.{AreInOrder, is_free};
 ghost use Rattle.genie_base.specs.declared.event.Event.TheVariants as event;
 ghost use Rattle.genie_hiding.specs.Hidden.{is_of};
 ghost use Rattle.genie_object.specs.Objects.{is_absent};
@@ -51,6 +51,7 @@ pub(crate) fn make_copies(kernel: &mut Kernel, pid: u32, child: u32) -> Regions
     requires accepted { refuse (outline kernel.old) (event.Fork pid child) ≡ None }
     requires unhidden { count_by (is_of child) kernel.old.hidden ≡ 0 }
     ensures only { kernel.new ≡ record kernel.old { memory = with_entries kernel.old kernel.new.memory.objects } }
+    ensures ordered { AreInOrder extent (regions_of pid kernel.old.spaces) }
     ensures copies { HasCopies kernel.old child (regions_of pid kernel.old.spaces) (length (regions_of pid kernel.old.spaces)) result kernel.new.memory.objects }
 {
     region_laws();

@@ -113,7 +113,7 @@ fn end_posted(kernel: &mut Kernel, pid: u32, id: TransferId)
     let _posted = kernel.posted.cancel(id.0);
 }
 
-// Ends all posted inputs of the process.
+// Ends all posted inputs of the process: at most 64 transfers are pending.
 fn end_all_posted(kernel: &mut Kernel, pid: u32)
     requires settled { IsSettled kernel.old }
     ensures exits { Exits pid kernel.old kernel.new }
@@ -143,7 +143,7 @@ fn remove_first(kernel: &mut Kernel, pid: u32)
     remove_region(kernel, pid, region);
 }
 
-// Removes all regions of the process.
+// Removes all regions of the process: it has at most 32.
 fn remove_all(kernel: &mut Kernel, pid: u32)
     requires settled { IsSettled kernel.old }
     requires alive { IsTrue (is_alive pid kernel.old.spaces) }

@@ -3,7 +3,7 @@
 
 mod copies;
 pub mod exit;
-mod fork;
+pub mod fork;
 pub mod laws;
 pub mod map;
 pub mod number;

@@ -1,8 +1,8 @@
-use Rattle.std.proofs.Common.{◌≡◌, ◌/◌, ◌+◌, ◌≤◌, ◌%◌, ℕ, length, refl, sym, subst, arith, ◌∙◌}
+use Rattle.std.proofs.Common.{◌≡◌, ◌/◌, ◌+◌, ◌≤◌, ℕ, length, refl, sym, subst, arith, ◌∙◌}
 use Rattle.genie_base.specs.Counts.{span}
 use Rattle.genie_hiding.specs.Rooms.{available}
 use Rattle.genie_object.specs.Objects.{object_at}
-use Rattle.genie_object.specs.Lemmas.Works.{below_more, page_most}
+use Rattle.genie_object.specs.Lemmas.Works.{page_most}
 use Rattle.genie_arrivals.proofs.Readying.{aim, aim_moved, aim_roomy, aim_shows, ready_meters}
 use Rattle.genie_arrivals.proofs.copy.make_ready.Goals as goal
 

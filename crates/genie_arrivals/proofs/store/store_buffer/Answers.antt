@@ -1,10 +1,9 @@
-use Rattle.std.proofs.Common.{◌≡◌, ◌+◌, ◌-◌, ◌*◌, ◌%◌, ◌<◌, ◌≤◌, ◌++◌, ℕ, List, arith, length, subst, sym, ap, take, drop, ◌∙◌}
+use Rattle.std.proofs.Common.{◌≡◌, ◌+◌, ◌*◌, ◌%◌, ◌<◌, ◌≤◌, ℕ, List, arith, length, subst, sym, ap, take, drop, ◌∙◌}
 use Rattle.genie_frame.specs.declared.frame.InLoan.{InLoan}
 use Rattle.genie_base.specs.Counts.{span}
 use Rattle.genie_input.specs.Buffers.{AreBuffers}
 use Rattle.genie_plan.specs.Loans.{AreOut, Ended, input_loans}
 use Rattle.genie_plan.specs.Plans.{input_frames}
-use Rattle.genie_finish.specs.Ranges.{StoresRange}
 use Rattle.genie_arrivals.specs.Stored.{StoresBuffer}
 use Rattle.genie_arrivals.proofs.Joining.{buffer_stored, buffers_taken, frames_split, frames_taken, rest_out, rest_taken}
 use Rattle.genie_arrivals.proofs.store.store_buffer.Goals as goal

@@ -1,7 +1,4 @@
 use Rattle.std.proofs.Common.{◌≡◌, ◌*◌, ◌≤◌, ℕ, sym, subst, ◌∙◌}
-use Rattle.std.specs.Prelude.{Some}
-use Rattle.genie_base.specs.Regions.{write_reach}
-use Rattle.genie_region.specs.Layouts.{extent}
 use Rattle.genie_model.specs.Tables.{entry}
 use Rattle.genie_kernel.specs.Regions.{regions_of}
 use Rattle.genie_arrivals.proofs.Reaching.{written_inside}

@@ -1,6 +1,5 @@
 use Rattle.std.proofs.Common.{arith, ◌≡◌, ◌*◌, ℕ, List, refl, sym, subst, ap, ◌∙◌}
-use Rattle.std.specs.Prelude.{None, Some, find, is_some}
-use Rattle.genie_base.specs.declared.reply.Reply.{Reply}
+use Rattle.std.specs.Prelude.{Some, find, is_some}
 use Rattle.genie_base.specs.declared.reply.Reply.TheVariants as reply
 use Rattle.genie_base.specs.declared.semantics.Class.TheVariants.{WeakMove}
 use Rattle.genie_model.specs.Lemmas.Lists.{find_has}

@@ -3,11 +3,11 @@ use Rattle.std.specs.Prelude.{Some, not}
 use Rattle.genie_inputs.specs.Posting.{with_input}
 use Rattle.genie_inputs.proofs.Answered.{fails}
 use Rattle.genie_inputs.proofs.Readied.{ready_moved}
-use Rattle.genie_inputs.proofs.Sharing.{share_answers, share_can_post, share_fills, share_fits, share_room, share_within}
+use Rattle.genie_inputs.proofs.Sharing.{share_answers, share_can_post, share_owned, share_fits, share_room, share_within}
 use Rattle.genie_inputs.proofs.share.share.Goals as goal
 
-pub lend_in_place-requires-clause-region : goal.lend_in_place-requires-clause-region
-lend_in_place-requires-clause-region g c = share_fills c.args.kernel.now c.args.call c.args.addr c.find_target-off.result.0 c.find_target-off.result.1 c.find_target-off.ensures
+pub lend_in_place-requires-clause-owned : goal.lend_in_place-requires-clause-owned
+lend_in_place-requires-clause-owned g c = share_owned c.args.kernel.now c.args.call c.args.addr c.find_target-off.result.0 c.find_target-off.result.1 c.find_target-off.ensures
 
 pub lend_in_place-requires-clause-fits : goal.lend_in_place-requires-clause-fits
 lend_in_place-requires-clause-fits g c = share_fits c.input_laws.ensures.small c.args.kernel.now c.args.call c.args.addr c.find_target-off.result.0 c.find_target-off.result.1 c.requires.good c.find_target-off.ensures

@@ -36,3 +36,6 @@ regions-preserved c = record {
   only = only_next c.args.kernel.now c.regions.kernel c.add_copy.new.memory _ c.regions.invariant.only c.add_copy.ensures.made;
   copies = copies_next c.region_laws.ensures c.args.kernel.now c.args.pid c.args.child (regions_of c.args.pid c.args.kernel.now.spaces) (may_fork c.regions_fit.ensures.regions c.args.kernel.now c.args.pid c.args.child c.requires.good c.requires.accepted c.requires.unhidden (subst (AreInOrder extent) c.regions-2.ensures c.len-count.ensures.layout.ordered)) c.regions.i c.regions.copies c.regions.kernel.memory.objects c.regions.invariant.copies c.at-region.result (region_there c.args.kernel.now c.regions.kernel c.args.pid c.regions.i c.regions-in-regions.result.now c.at-region.result c.regions.invariant.only c.regions-in-regions.ensures c.at-region.ensures) (record { 0 = c.fresh_beside.result }) c.add_copy.new.copies c.add_copy.new.memory (subst (λ (l : List Region). length l ≤ 32) c.regions-2.ensures c.len-count.ensures.layout.few) (sym c.accessible.ensures ∙ c.if-not-accessible.false) (object_room c.objects_suffice.ensures c.args.kernel.now c.args.pid c.args.child (regions_of c.args.pid c.args.kernel.now.spaces) (may_fork c.regions_fit.ensures.regions c.args.kernel.now c.args.pid c.args.child c.requires.good c.requires.accepted c.requires.unhidden (subst (AreInOrder extent) c.regions-2.ensures c.len-count.ensures.layout.ordered)) c.regions.i c.regions.copies c.regions.kernel.memory.objects c.regions.invariant.copies (let t = c.regions-test.true in let n = c.len-count.ensures.length in let m = ap length c.regions-2.ensures in omega (arith, t, n, m)) (subst (λ (l : List Region). length l ≤ 32) c.regions-2.ensures c.len-count.ensures.layout.few)) (let m = (may_fork c.regions_fit.ensures.regions c.args.kernel.now c.args.pid c.args.child c.requires.good c.requires.accepted c.requires.unhidden (subst (AreInOrder extent) c.regions-2.ensures c.len-count.ensures.layout.ordered)) in fresh_there c.args.kernel.now c.regions.kernel c.args.child c.fresh_beside.result c.regions.copies c.regions.invariant.only c.fresh_beside.ensures m.place m.free) (adds_there c.args.kernel.now c.regions.kernel (record { 0 = c.fresh_beside.result }) c.at-region.result c.regions.copies c.add_copy.new.copies c.add_copy.new.memory c.regions.invariant.only c.add_copy.ensures);
 }
+
+pub returns-clause-ordered : goal.returns-clause-ordered
+returns-clause-ordered c = subst (AreInOrder extent) c.regions-2.ensures c.len-count.ensures.layout.ordered

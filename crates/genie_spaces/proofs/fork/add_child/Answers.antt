@@ -1,7 +1,6 @@
-use Rattle.std.proofs.Common.{ap, arith, get_or-set_same, ◌∙◌, List, []}
-use Rattle.std.specs.Prelude.{Option, Some, None, is_some, slice_set}
+use Rattle.std.proofs.Common.{ap, arith, get_or-set_same, ◌∙◌, []}
+use Rattle.std.specs.Prelude.{Some, None, is_some, slice_set}
 use Rattle.std.proofs.lemmas.List.{set-set}
-use Rattle.genie_region.specs.declared.region.Region.{Region}
 use Rattle.genie_space.specs.Spaces.{AddressSpaces, is_alive, set_regions}
 use Rattle.genie_spaces.proofs.fork.add_child.Goals as goal
 
