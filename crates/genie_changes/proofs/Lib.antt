@@ -30,6 +30,7 @@ pub mod EndedTransfer
 pub mod Settling
 pub mod Lent
 pub mod Keeping
+pub mod RegionLeft
 pub mod RegionGone
 pub mod StateGone
 pub mod Paging
