@@ -14,4 +14,6 @@ mod Zeros
 mod Finishing
 mod Paging
 mod Closing
+mod Forbidding
+mod Emptying
 mod Moving

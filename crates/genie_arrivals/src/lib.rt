@@ -2,6 +2,7 @@
 #![tactic(auto)]
 
 mod back;
+mod clear;
 pub mod copy;
 pub mod gone;
 mod laws;
