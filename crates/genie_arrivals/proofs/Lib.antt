@@ -16,4 +16,5 @@ mod Paging
 mod Closing
 mod Forbidding
 mod Emptying
+mod Unheld
 mod Moving
