@@ -17,4 +17,5 @@ mod Closing
 mod Forbidding
 mod Emptying
 mod Unheld
+mod Filling
 mod Moving

@@ -4,6 +4,7 @@
 mod back;
 mod clear;
 pub mod copy;
+mod fill;
 pub mod gone;
 mod laws;
 mod live;
