@@ -18,4 +18,5 @@ mod Forbidding
 mod Emptying
 mod Unheld
 mod Filling
+mod Filled
 mod Moving
