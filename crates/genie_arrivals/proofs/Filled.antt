@@ -1,5 +1,5 @@
 -- The end of a move input whose region is filled, as one step.
-use Rattle.std.proofs.Common.{◌≡◌, ◌≢◌, ℕ, ◌+◌, ◌*◌, ◌/◌, ◌%◌, ◌^◌, ◌<◌, ◌≤◌, zero, suc, Bool, true, false, List, [], ◌∷◌, ◌++◌, refl, sym, ap, ap₂, subst, arith, rules, ◌∙◌, length, take, drop, map, get_or, ⊎_elim, inl, inr, eqb-true, eq-eqb, length-append}
+use Rattle.std.proofs.Common.{◌≡◌, ◌≢◌, ℕ, ◌+◌, ◌*◌, ◌/◌, ◌%◌, ◌^◌, ◌<◌, ◌≤◌, zero, suc, Bool, true, false, List, [], ◌∷◌, ◌++◌, refl, sym, ap, ap₂, subst, arith, rules, ◌∙◌, length, take, drop, map, get_or, ⊎_elim, inl, inr, eqb-true, eq-eqb, ne_eqb, length-append}
 use Rattle.std.specs.Prelude.{Option, Some, None, All, find, flat_map, replicate, unwrap_or, ◌⊎◌, ◌==◌, if◌then◌else◌}
 use Rattle.std.specs.List.{range_with_len}
 use Rattle.std.specs.Option.{option_map, option_and_then}
@@ -77,9 +77,10 @@ use Rattle.genie_arrivals.specs.Cases.{IsInputOf}
 use Rattle.genie_arrivals.specs.Clearing.{ClearsObject, FillsObject}
 use Rattle.genie_arrivals.specs.CopyLaws.{CopyLaws}
 use Rattle.genie_arrivals.specs.EndLaws.{EndLaws}
+use Rattle.genie_arrivals.specs.Ends.{EndsAlone}
 use Rattle.genie_arrivals.specs.Live.{ChangeLaws, lively}
 use Rattle.genie_arrivals.specs.Paging.{EndsPaged}
-use Rattle.genie_arrivals.specs.Stored.{CanStoreBuffer}
+use Rattle.genie_arrivals.specs.Stored.{CanStoreBuffer, StoresBuffer}
 use Rattle.genie_arrivals.specs.SwapLaws.{SwapLaws}
 use Rattle.genie_arrivals.proofs.Alone.{are_buffers}
 use Rattle.genie_arrivals.proofs.Finishing.{HasBuffer, payload, payload_is, shown_joined, take_less}
@@ -272,3 +273,168 @@ module _ (laws : EndLaws) (change : ChangeLaws) (room : CopyLaws) (swap : SwapLa
       where
         product : (a b : ℕ) → 0 < a → 0 < b → 0 < a * b
         product a b l m = grind (arith, l, m)
+
+  module _ (m3 : Memory) (fills : FillsObject k.memory m3 r.object.0 t.stored (input_frames L)) (accepted : refuse (outline k) (Finish n) ≡ None) where
+    abbrev c : ClearsObject k.memory fills.clear r.object.0
+    c = fills.clears
+
+    abbrev cleared : Kernel
+    cleared = record k { memory = fills.clear }
+
+    abbrev g1 : IsGood cleared
+    g1 = mid_good fills.clear c
+
+    abbrev less : Kernel
+    less = without_call cleared m3 n cleared.posted
+
+    abbrev new : Kernel
+    new = lively less o.pid r.id.0 had.regions
+
+    abbrev answer : Reply
+    answer = reply.Input (Some (r.start * k.config.page)) t.stored t.note
+
+    early : is_early_device (entry k.devices t.dev) ≡ true
+    early = is.early
+
+    stores : StoresBuffer fills.clear m3 r.object.0 0 t.stored (frames_of t.loans)
+    stores = subst (StoresBuffer fills.clear m3 r.object.0 0 t.stored) (sym buffer.is_frames) fills.stores
+
+    unhidden_range : (a i : ℕ) → is_among a (objects_of cleared.hidden) ≡ true → is_in_range r.object.0 (0 / fills.clear.frames.page) (span fills.clear.frames.page 0 t.stored) a i ≡ false
+    unhidden_range a i among = unspoken r.object.0 (0 / fills.clear.frames.page) (span fills.clear.frames.page 0 t.stored) a i (other_object r.object.0 a (objects_of k.hidden) (unhidden k g r region_owned) among)
+
+    guarded : AreGuarded m3.objects (owned_regions cleared.spaces.processes)
+    guarded j d l shut i =
+        let x : Region = get_or (owned_regions k.spaces.processes) j d in
+        ⊎_elim
+        (λ (e : (x.object.0 == r.object.0) ≡ true). subst (λ a. (entry_at m3.objects a i).writable ≡ false) (sym (eqb-true x.object.0 r.object.0 e)) (fills.shut i))
+        (λ (e : (x.object.0 == r.object.0) ≡ false). still_shut (entry_at fills.clear.objects x.object.0 i).writable (entry_at m3.objects x.object.0 i).writable (stores.touches.entries x.object.0 i (unspoken r.object.0 (0 / fills.clear.frames.page) (span fills.clear.frames.page 0 t.stored) x.object.0 i e)).writable (g1.guarded j d l shut i))
+        (cases_Bool (x.object.0 == r.object.0))
+      where
+        still_shut : (a b : Bool) → (b ≡ true → a ≡ true) → a ≡ false → b ≡ false
+        still_shut a true f e = let yes = f refl in cc
+        still_shut a false f e = refl
+
+    own1 : AreItsOwn fills.clear.frames.owners n (frames_of t.loans)
+    own1 = own fills.clear c
+
+    settled : IsSettled less
+    settled = swapped_settled laws swap cleared n t g1 found ready early strong L buffer.is_loans buffer.is_frames own1 m3 r.object.0 0 t.stored stores unhidden_range guarded
+
+    -- what is known of the bytes before and after
+    record Refills (s d : ℕ → ℕ → List ℕ) (kept after : ℕ → List ℕ) : Type 0 where
+      bytes : object_bytes d r.object.0 r.pages ≡ overlaid 0 (payload kept t) (replicate (length (object_bytes s r.object.0 r.pages)) 0)
+      others : (a b : ℕ) → a ≢ r.object.0 → d a b ≡ s a b
+      pages : ShowsPages cleared.config.page cleared.memory kept
+      frames : SameNeeded (owned_regions k.spaces.processes) (without (has_number n) k.transfers) k.pools kept after
+
+    steps : (s d : ℕ → ℕ → List ℕ) (kept after : ℕ → List ℕ) (rests sents : ℕ → List ℕ) → Refills s d kept after → Steps (state_of k (record { seen = record { entry_bytes = s; kept_bytes = kept }; rests = rests; sents = sents })) (Finish n) (state_of new (record { seen = record { entry_bytes = d; kept_bytes = after }; rests = rests; sents = sents })) answer
+    steps s d kept after rests sents y =
+        let b : Bytes = record { seen = record { entry_bytes = s; kept_bytes = kept }; rests = rests; sents = sents } in
+        let between : Bytes = record { seen = record { entry_bytes = d; kept_bytes = kept }; rests = rests; sents = sents } in
+        let last : Bytes = record { seen = record { entry_bytes = d; kept_bytes = after }; rests = rests; sents = sents } in
+        let idle = ready_idle t.phase ready in
+        let f : flat.Region → flat.Region = refilled (payload kept t) in
+        let shows : ShowsOthers cleared n between last = record { rests = refl; sents = refl; entries = refl; frames = y.frames; pages = y.pages } in
+        let left : state_of less last ≡ tidy (without_transfer (state_of k between) n) = laws.leaves cleared m3 n t cleared.posted between last g1 found idle.unqueued idle.unmoved shows in
+        let put = state_changed k g r region_owned s d kept f (ap (λ z. record (region_view s r) { bytes = z }) y.bytes) y.others rests sents in
+        let lives = live_state change less settled o.pid had.regions r had.there had.found last in
+        let twice = processes_twice r.id.0 f (with_state state.Live) (λ x. refl) (state_of k b).processes in
+        let all : state_of new last ≡ tidy (change_region (without_transfer (state_of k b) n) r.id.0 (filled (payload kept t))) =
+        lives ∙ ap (λ (z : flat.State). change_region z r.id.0 (with_state state.Live)) (left ∙ ap (λ (z : flat.State). tidy (without_transfer z n)) put)
+        ∙ (λ i. record (tidy (without_transfer (state_of k b) n)) { processes = twice i }) in
+        quiet_steps (state_of k b) (state_of new last) n answer (change_region (without_transfer (state_of k b) n) r.id.0 (filled (payload kept t))) (move_there k b n q t r found owner is.inward is.class_is (unbuffered k n t g found early) had.names (found_everywhere change k (laws.settled k g) o.pid had.regions r had.there had.found)) refl all
+
+    outline_refills : Refills (no_bytes page).seen.entry_bytes (no_bytes page).seen.entry_bytes (no_bytes page).seen.kept_bytes (no_bytes page).seen.kept_bytes
+    outline_refills =
+        let shows = laws.outlines cleared n in
+        let z = (no_bytes page).seen in
+        let zeros = zeros_taken t.stored (lent_bytes z.kept_bytes t) (zeros_taken t.len (drop (first_of t.loans) (bytes_in_frames z.kept_bytes (frames_of t.loans))) (zeros_dropped (first_of t.loans) (bytes_in_frames z.kept_bytes (frames_of t.loans)) (zeros_each page (frames_of t.loans)))) in
+        let all : List ℕ = object_bytes z.entry_bytes r.object.0 r.pages in
+        record {
+          bytes = zeros_are all (zeros_each page (range_with_len 0 r.pages)) ∙ sym (zeros_overlaid 0 (payload z.kept_bytes t) (replicate (length all) 0) zeros (zeros_repeated (length all)));
+          others = λ a b ne. refl;
+          pages = shows.pages;
+          frames = shows.frames;
+        }
+
+    orderly : IsOrderly (outline new)
+    orderly =
+        let b = no_bytes page in
+        laws.orderly (outline k) (outline new) (Finish n) answer refl accepted (steps b.seen.entry_bytes b.seen.entry_bytes b.seen.kept_bytes b.seen.kept_bytes b.rests b.sents outline_refills) g.orderly
+
+    zeros_page : (slots : ℕ → List ℕ) (i : ℕ) → (seen fills.clear slots).entry_bytes r.object.0 i ≡ replicate fills.clear.frames.page 0
+    zeros_page slots i = ap (page_bytes fills.clear.frames fills.clear.pages.pages slots) (c.empty i)
+
+    payload_same : (slots : ℕ → List ℕ) → range_bytes fills.clear.frames (frames_of t.loans) (0 % fills.clear.frames.page) t.stored ≡ payload (seen fills.clear slots).kept_bytes t
+    payload_same slots =
+        let shown : (j : ℕ) → j < length (frames_of t.loans) → (seen fills.clear slots).kept_bytes (get_or (frames_of t.loans) j 0) ≡ bytes_at fills.clear.frames (get_or (frames_of t.loans) j 0) = λ j l. ap (λ (z : Owner). if is_kept z (counts_at fills.clear.frames (get_or (frames_of t.loans) j 0)) then bytes_at fills.clear.frames (get_or (frames_of t.loans) j 0) else []) (own1.own j 0 l) in
+        let bytes = shown_joined (seen fills.clear slots).kept_bytes fills.clear.frames (frames_of t.loans) shown in
+        let same : fills.clear.frames.page ≡ page = c.keeps.page ∙ g.sized.page in
+        let first : 0 % fills.clear.frames.page ≡ first_of t.loans = ap (λ z. 0 % z) same ∙ sym (buffer.first ∙ ap (λ z. z % page) begins) in
+        (λ i. part (first i) t.stored (sym bytes i))
+        ∙ sym (take_less t.stored t.len (drop (first_of t.loans) (flat_map (seen fills.clear slots).kept_bytes (frames_of t.loans))) (stored_most k n t g found))
+
+    refills : (slots : ℕ → List ℕ) → ((s : ℕ) → length (slots s) ≡ k.memory.frames.page) → Refills (seen k.memory slots).entry_bytes (seen m3 slots).entry_bytes (seen k.memory slots).kept_bytes (seen m3 slots).kept_bytes
+    refills slots paged =
+        let clear_paged : (s : ℕ) → length (slots s) ≡ fills.clear.frames.page = λ s. paged s ∙ sym c.keeps.page in
+        let shows = stores.shows slots clear_paged in
+        let same : fills.clear.frames.page ≡ page = c.keeps.page ∙ g.sized.page in
+        let kept = c.shows slots in
+        let roomy = can_fill_within in
+        let zeros : object_bytes (seen fills.clear slots).entry_bytes r.object.0 r.pages ≡ flat_map (λ (i : ℕ). replicate fills.clear.frames.page 0) (range_with_len 0 r.pages) = bytes_alike (λ a i. (seen fills.clear slots).entry_bytes a i) (λ a i. replicate fills.clear.frames.page 0) r.object.0 (range_with_len 0 r.pages) (zeros_page slots) in
+        let lengths : length (flat_map (λ (i : ℕ). replicate fills.clear.frames.page 0) (range_with_len 0 r.pages)) ≡ length (object_bytes (seen k.memory slots).entry_bytes r.object.0 r.pages) = same_lengths (λ i. replicate fills.clear.frames.page 0) ((seen k.memory slots).entry_bytes r.object.0) (range_with_len 0 r.pages) (λ i. length-replicate fills.clear.frames.page 0 ∙ c.keeps.page ∙ sym (entry_size k.memory slots r.object.0 i g.sound paged)) in
+        record {
+          bytes = shows.range r.pages roomy
+              ∙ (λ i. overlaid 0 (payload_same slots i) (zeros i))
+              ∙ (λ i. overlaid 0 (payload (kept i) t) (zeros_are (flat_map (λ (j : ℕ). replicate fills.clear.frames.page 0) (range_with_len 0 r.pages)) (zeros_each fills.clear.frames.page (range_with_len 0 r.pages)) i))
+              ∙ ap (λ j. overlaid 0 (payload (seen k.memory slots).kept_bytes t) (replicate j 0)) lengths;
+          others = λ a b ne. shows.objects a b ne ∙ c.empties.entries slots a b (ne_eqb a r.object.0 ne);
+          pages = subst (λ (z : ℕ → List ℕ). ShowsPages page fills.clear z) kept (subst (λ z. ShowsPages z fills.clear (seen fills.clear slots).kept_bytes) same (swap.nobody fills.clear slots c.empties.sound.shaped));
+          frames = subst (λ (z : ℕ → List ℕ). SameNeeded (owned_regions k.spaces.processes) (without (has_number n) k.transfers) k.pools z (seen m3 slots).kept_bytes) kept (swap.suffice (owned_regions k.spaces.processes) (without (has_number n) k.transfers) k.pools (seen fills.clear slots).kept_bytes (seen m3 slots).kept_bytes (swapped_frames laws swap cleared n t g1 found ready early strong L buffer.is_loans buffer.is_frames own1 m3 r.object.0 0 t.stored stores unhidden_range guarded slots clear_paged));
+        }
+      where
+        can_fill_within : 0 / fills.clear.frames.page + span fills.clear.frames.page 0 t.stored ≤ r.pages
+        can_fill_within =
+            let same : fills.clear.frames.page ≡ page = c.keeps.page ∙ g.sized.page in
+            let stored = stored_most k n t g found in
+            let whole : 0 < page * r.pages = product page r.pages (some_page k g) region_some in
+            let turned : page * r.pages ≡ r.pages * page = grind arith in
+            subst (λ z. 0 / z + span z 0 t.stored ≤ r.pages) (sym same) (span_within page 0 t.stored r.pages (some_page k g) whole (omega (arith, inside, stored, turned)))
+          where
+            product : (a b : ℕ) → 0 < a → 0 < b → 0 < a * b
+            product a b l m = grind (arith, l, m)
+
+    steps_paged : StepsPaged k (Finish n) new answer
+    steps_paged slots rests sents have =
+        let p : ℕ → List ℕ = padded k.memory.frames.page (length k.memory.slots) slots in
+        let one = steps (seen k.memory p).entry_bytes (seen m3 p).entry_bytes (seen k.memory p).kept_bytes (seen m3 p).kept_bytes rests sents (refills p (padded_paged k.memory slots have)) in
+        let two = subst (λ (s : Seen). Steps (state_of k (record { seen = s; rests = rests; sents = sents })) (Finish n) (state_of new (record { seen = seen m3 p; rests = rests; sents = sents })) answer) (seen_padded k.memory slots k.memory.frames.page (length k.memory.slots) g.sound refl) one in
+        subst (λ (s : Seen). Steps (state_of k (bytes_over k.memory slots rests sents)) (Finish n) (state_of new (record { seen = s; rests = rests; sents = sents })) answer) (seen_padded m3 slots k.memory.frames.page (length k.memory.slots) stores.sound (sym (stores.keeps.slots ∙ c.keeps.slots))) two
+
+    kept_by : Kept k new
+    kept_by =
+        let x = calls_kept k fills.clear g c.keeps in
+        let y = swapped_kept laws swap cleared n t g1 found ready early strong L buffer.is_loans buffer.is_frames own1 m3 r.object.0 0 t.stored stores unhidden_range guarded in
+        record {
+          lent = λ j f u w p on still. owner_on _ _ _ (x.lent j f u u (record { was = p.was; is = p.was }) on on) (y.lent j f u w (record { was = p.was; is = p.is }) on still);
+          pooled = λ d f on still. owner_on _ _ _ (x.pooled d f on on) (y.pooled d f on still);
+          fresh = λ j f u w p. y.fresh j f u w (record { was = p.was; is = p.is });
+        }
+
+    pub move_ends : EndsPaged k n new answer
+    move_ends = record {
+      good = live_good change less settled o.pid had.regions r had.there had.found orderly;
+      sized = λ w s. record { count = s.count ∙ sym (stores.keeps.slots ∙ c.keeps.slots); page = s.page ∙ sym (stores.keeps.page ∙ c.keeps.page) };
+      kept = kept_by;
+      step = steps_paged;
+      config = refl;
+      unfailed = refl;
+    }
+
+-- an end that leaves all bytes as they are
+pub alone_ends : (k new : Kernel) (n : ℕ) (a : Reply) → EndsAlone k n new a → EndsPaged k n new a
+alone_ends k new n a e = record { good = e.good; sized = e.sized; kept = e.kept; step = λ slots rests sents have. e.step slots rests sents; config = e.config; unfailed = e.unfailed }
+
+-- the object of a region is there
+pub object_there : (objects : List (List Entry)) (o pages : ℕ) → length (object_at objects o) ≡ pages → 0 < pages → object_at objects o ≢ []
+object_there objects o pages size some none = let zero_long = ap length none in absurd (omega (arith, size, some, zero_long))

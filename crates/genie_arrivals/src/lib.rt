@@ -6,6 +6,7 @@ mod clear;
 pub mod copy;
 mod fill;
 pub mod gone;
+pub mod held;
 mod laws;
 mod live;
 mod owned;
