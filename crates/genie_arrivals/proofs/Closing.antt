@@ -42,6 +42,7 @@ use Rattle.genie_changes.specs.Making.{IsMoved}
 use Rattle.genie_changes.specs.Paged.{IsPaged, PagedIsTold, StepsPaged}
 use Rattle.genie_changes.specs.Premises.{ShowsPages}
 use Rattle.genie_arrivals.specs.Cases.{IsInputOf}
+use Rattle.genie_arrivals.specs.Paging.{EndsPaged}
 use Rattle.genie_arrivals.specs.CopyLaws.{CopyLaws}
 use Rattle.genie_arrivals.specs.EndLaws.{EndLaws}
 use Rattle.genie_arrivals.specs.Ends.{EndsAlone}
@@ -156,3 +157,13 @@ module _ (laws : EndLaws) (room : CopyLaws) (swap : SwapLaws) (told : PagedIsTol
         step = λ host. subst (λ s. StepsTold s (Finish n) (view new host w) answer) (moved.told host) (told mid new (Finish n) answer host w refused refl moved.sized paged steps_paged);
         cause = faults;
       }
+
+-- the same over slots that have a page each
+pub paged_serves : PagedIsTold → (k new : Kernel) (v : StoreView) (n : ℕ) (r : Reply) → refuse (outline k) (Finish n) ≡ None → IsSized k.memory v → IsPaged v → EndsPaged k n new r → Serves k (Finish n) new v v r
+paged_serves told k new v n r accepted sized paged e = record {
+  good = e.good;
+  sized = e.sized v sized;
+  kept = e.kept;
+  step = λ host. told k new (Finish n) r host v accepted e.config sized paged e.step;
+  cause = subst (λ (m : Mark). StoreCause m v.faults v.faults) (sym e.unfailed) refl;
+}
