@@ -1,7 +1,7 @@
 -- The entries of an object are emptied, one after the other.
-use Rattle.std.proofs.Common.{◌≡◌, ℕ, ◌+◌, ◌<◌, ◌≤◌, Bool, true, false, List, refl, sym, ap, subst, arith, rules, ◌∙◌, length, ⊎_elim}
-use Rattle.std.specs.Prelude.{Option, Some, None}
-use Rattle.std.proofs.lemmas.Bool.{cases_eq, cases_lt}
+use Rattle.std.proofs.Common.{◌≡◌, ℕ, ◌+◌, ◌<◌, ◌≤◌, false, List, refl, sym, ap, subst, arith, rules, ◌∙◌, length, ⊎_elim}
+use Rattle.std.specs.Prelude.{Some, None}
+use Rattle.std.proofs.lemmas.Bool.{cases_lt}
 use Rattle.genie_base.specs.Lemmas.Places.{past_end}
 use Rattle.genie_frame.specs.declared.frame.Counts.{Counts}
 use Rattle.genie_frame.specs.FrameTable.{FrameTable, counts_at, is_held}
@@ -18,7 +18,6 @@ use Rattle.genie_object.specs.Touching.{KeepsLoans, is_entry}
 use Rattle.genie_object.specs.Lemmas.Emptied.{empties_more, empties_none, empties_on, entry_object}
 use Rattle.genie_object.specs.Lemmas.Removed.{empty_more}
 use Rattle.genie_object.specs.Lemmas.Touching.{keeps_all, keeps_on}
-use Rattle.genie_plan.specs.Lemmas.Landings.{page_in}
 use Rattle.genie_arrivals.specs.Clearing.{ClearsObject}
 
 -- what was done when n entries are empty

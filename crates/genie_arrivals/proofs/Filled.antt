@@ -1,26 +1,21 @@
 -- The end of a move input whose region is filled, as one step.
-use Rattle.std.proofs.Common.{◌≡◌, ◌≢◌, ℕ, ◌+◌, ◌*◌, ◌/◌, ◌%◌, ◌^◌, ◌<◌, ◌≤◌, zero, suc, Bool, true, false, List, [], ◌∷◌, ◌++◌, refl, sym, ap, ap₂, subst, arith, rules, ◌∙◌, length, take, drop, map, get_or, ⊎_elim, inl, inr, eqb-true, eq-eqb, ne_eqb, length-append}
-use Rattle.std.specs.Prelude.{Option, Some, None, All, find, flat_map, replicate, unwrap_or, ◌⊎◌, ◌==◌, if◌then◌else◌}
+use Rattle.std.proofs.Common.{◌≡◌, ◌≢◌, ℕ, ◌+◌, ◌*◌, ◌/◌, ◌%◌, ◌^◌, ◌<◌, ◌≤◌, Bool, true, false, List, [], ◌∷◌, refl, sym, ap, ap₂, subst, arith, ◌∙◌, length, drop, map, get_or, ⊎_elim, inl, inr, eqb-true, eq-eqb, ne_eqb, length-append}
+use Rattle.std.specs.Prelude.{Option, Some, None, find, flat_map, replicate, unwrap_or, ◌==◌, if◌then◌else◌}
 use Rattle.std.specs.List.{range_with_len}
 use Rattle.std.specs.Option.{option_map, option_and_then}
 use Rattle.std.proofs.lemmas.Bool.{cases_Bool}
 use Rattle.std.proofs.lemmas.List.{length-replicate}
 use Rattle.genie_base.specs.Bytes.{overlaid, part}
 use Rattle.genie_base.specs.Counts.{span}
-use Rattle.genie_base.specs.Events.{mark_of}
 use Rattle.genie_base.specs.Transfers.{class_of, is_strong}
 use Rattle.genie_base.specs.declared.event.Event.TheVariants.{Finish}
 use Rattle.genie_base.specs.declared.region.RegionState.TheVariants as state
 use Rattle.genie_base.specs.declared.reply.Reply.{Reply}
 use Rattle.genie_base.specs.declared.reply.Reply.TheVariants as reply
-use Rattle.genie_base.specs.declared.semantics.Class.{Class}
 use Rattle.genie_base.specs.declared.semantics.Class.TheVariants.{Move}
-use Rattle.genie_base.specs.declared.semantics.Direction.{Direction}
 use Rattle.genie_base.specs.declared.semantics.Direction.TheVariants as direction
 use Rattle.genie_frame.specs.declared.frame.InLoan.{InLoan}
-use Rattle.genie_frame.specs.declared.frame.Meters.{Meters}
 use Rattle.genie_frame.specs.declared.frame.Owner.{Owner}
-use Rattle.genie_frame.specs.declared.frame.Owner.TheVariants.{Nobody}
 use Rattle.genie_frame.specs.FrameTable.{FrameTable, bytes_at, counts_at, owner_at}
 use Rattle.genie_finish.specs.Moves.{EmptyCanStore}
 use Rattle.genie_hiding.specs.Hidden.{is_among, objects_of}
@@ -28,22 +23,18 @@ use Rattle.genie_object.specs.declared.memory.Memory.{Memory}
 use Rattle.genie_object.specs.declared.objects.Entry.{Entry}
 use Rattle.genie_object.specs.Costs.{AreBelow}
 use Rattle.genie_object.specs.Leaving.{is_object}
-use Rattle.genie_object.specs.Memory.{Seen, is_kept, page_bytes, seen, zeros}
+use Rattle.genie_object.specs.Memory.{Seen, is_kept, page_bytes, seen}
 use Rattle.genie_object.specs.Objects.{entry_at, object_at}
-use Rattle.genie_object.specs.Sound.{IsSized, IsSound}
 use Rattle.genie_object.specs.Touching.{is_in_range}
 use Rattle.genie_object.specs.Lemmas.Works.{below_more}
-use Rattle.genie_plan.specs.Landings.{entries_bytes}
 use Rattle.genie_plan.specs.Plans.{input_frames, range_bytes}
 use Rattle.genie_plan.specs.Lemmas.Landings.{entry_size}
 use Rattle.genie_region.specs.declared.region.Region.{Region}
 use Rattle.genie_space.specs.Translations.{IsBacked}
-use Rattle.genie_store.specs.StoreView.{StoreView}
 use Rattle.genie_model.specs.Ending.{filled, finish, finish_move, without_transfer}
-use Rattle.genie_model.specs.Lemmas.Lists.{Has, all_has, find_has, has_at, has_left, has_map}
+use Rattle.genie_model.specs.Lemmas.Lists.{Has, all_has, find_has, has_left, has_map}
 use Rattle.genie_model.specs.Pending.{is_ready}
 use Rattle.genie_model.specs.Refusing.{refuse}
-use Rattle.genie_model.specs.Regions as model
 use Rattle.genie_model.specs.Regions.{change_process, change_region, changed, changed_in, orphan_numbered, region_numbered, with_state}
 use Rattle.genie_model.specs.Space.{tidy}
 use Rattle.genie_model.specs.State as flat
@@ -59,7 +50,7 @@ use Rattle.genie_kernel.specs.Kept.{Kept, KeepsOwner}
 use Rattle.genie_kernel.specs.Loans.{bytes_in_frames, first_of, frames_of}
 use Rattle.genie_kernel.specs.Orphans.{lent_bytes}
 use Rattle.genie_kernel.specs.Planned.{AreItsOwn, is_early_device}
-use Rattle.genie_kernel.specs.Regions.{has_id, object_bytes, owned_regions, region_view, regions_of}
+use Rattle.genie_kernel.specs.Regions.{has_id, object_bytes, owned_regions, region_view}
 use Rattle.genie_kernel.specs.Same.{SameNeeded}
 use Rattle.genie_kernel.specs.Steps.{Steps, bytes_over}
 use Rattle.genie_kernel.specs.View.{Bytes, no_bytes, outline, state_of}
@@ -68,7 +59,7 @@ use Rattle.genie_kernel.specs.Lemmas.Staying.{memory_good, system_same}
 use Rattle.genie_changes.specs.Ending.{ShowsOthers, without_call}
 use Rattle.genie_changes.specs.Lemmas.Once.{same_number, same_object}
 use Rattle.genie_changes.specs.Lemmas.Outside.{bytes_alike, unhidden}
-use Rattle.genie_changes.specs.Paged.{HavePages, StepsPaged}
+use Rattle.genie_changes.specs.Paged.{StepsPaged}
 use Rattle.genie_changes.specs.Premises.{ShowsPages}
 use Rattle.genie_changes.specs.Settled.{IsSettled}
 use Rattle.genie_room.specs.Bounds.{IsShort}
@@ -84,7 +75,7 @@ use Rattle.genie_arrivals.specs.Stored.{CanStoreBuffer, StoresBuffer}
 use Rattle.genie_arrivals.specs.SwapLaws.{SwapLaws}
 use Rattle.genie_arrivals.proofs.Alone.{are_buffers}
 use Rattle.genie_arrivals.proofs.Finishing.{HasBuffer, payload, payload_is, shown_joined, take_less}
-use Rattle.genie_arrivals.proofs.Found.{IsIdle, ready_idle, seen_as}
+use Rattle.genie_arrivals.proofs.Found.{ready_idle, seen_as}
 use Rattle.genie_arrivals.proofs.Lively.{found_everywhere, live_good, live_state}
 use Rattle.genie_arrivals.proofs.Moving.{IsHad, region_in}
 use Rattle.genie_arrivals.proofs.Owning.{has_owned}

@@ -1,11 +1,9 @@
 -- An object was filled.
-use Rattle.std.proofs.Common.{◌≡◌, ◌≢◌, ℕ, ◌<◌, Bool, true, false, List, [], ◌∷◌, refl, sym, ap, subst, arith, ◌∙◌, length}
-use Rattle.genie_hiding.specs.Lemmas.Naming.{names_same}
+use Rattle.std.proofs.Common.{◌≡◌, ◌≢◌, ℕ, false, List, [], ◌∷◌, refl, sym, ap, arith, ◌∙◌, length}
 use Rattle.genie_object.specs.declared.memory.Memory.{Memory}
 use Rattle.genie_object.specs.declared.objects.Entry.{Entry}
-use Rattle.genie_object.specs.Memory.{Seen, frame_of, seen}
-use Rattle.genie_object.specs.Objects.{entry_at, object_at}
-use Rattle.genie_object.specs.Touching.{Touches}
+use Rattle.genie_object.specs.Memory.{Seen, frame_of}
+use Rattle.genie_object.specs.Objects.{object_at}
 use Rattle.genie_object.specs.Lemmas.Touching.{touches_more, touches_on}
 use Rattle.genie_plan.specs.Landings.{entries_bytes}
 use Rattle.genie_arrivals.specs.Clearing.{ClearsObject, FillsObject, Forbids, NarrowsAll}

@@ -1,5 +1,5 @@
 -- Write permission that is taken from the entries of an object.
-use Rattle.std.proofs.Common.{◌≡◌, ℕ, ◌+◌, ◌<◌, ◌≤◌, Bool, true, false, List, refl, sym, ap, subst, arith, ◌∙◌, length, ⊎_elim}
+use Rattle.std.proofs.Common.{◌≡◌, ℕ, ◌+◌, ◌<◌, ◌≤◌, false, List, refl, sym, ap, subst, arith, ◌∙◌, length, ⊎_elim}
 use Rattle.std.proofs.lemmas.Bool.{cases_eq, cases_lt}
 use Rattle.genie_base.specs.Lemmas.Places.{past_end, num}
 use Rattle.genie_object.specs.declared.memory.Memory.{Memory}

@@ -1,7 +1,6 @@
 -- No device holds a page of a region that is held for a move input.
-use Rattle.std.proofs.Common.{◌≡◌, ◌≢◌, ℕ, ◌+◌, ◌<◌, ◌≤◌, zero, suc, Bool, true, false, not, cond, List, [], ◌∷◌, refl, sym, ap, subst, arith, rules, ◌∙◌, length, map, get_or, ⊎_elim, inl, inr, eqb-true, eq-eqb}
-use Rattle.std.specs.Prelude.{Option, Some, None, All, find, filter, sum_by, count_by, ◌⊎◌, ◌==◌, ◌&&◌, if◌then◌else◌}
-use Rattle.std.specs.List.{list_any}
+use Rattle.std.proofs.Common.{◌≡◌, ◌≢◌, ℕ, ◌+◌, ◌<◌, ◌≤◌, zero, suc, Bool, true, false, not, List, [], ◌∷◌, refl, sym, ap, subst, arith, rules, ◌∙◌, length, get_or, ⊎_elim, inl, inr, eqb-true, eq-eqb}
+use Rattle.std.specs.Prelude.{Option, Some, None, All, find, sum_by, count_by, ◌⊎◌, ◌==◌, ◌&&◌, if◌then◌else◌}
 use Rattle.std.proofs.lemmas.Bool.{cases_Bool}
 use Rattle.std.proofs.lemmas.List.Sums.{sum_by-cons}
 use Rattle.genie_base.specs.Lemmas.Places.{num}
@@ -12,21 +11,19 @@ use Rattle.genie_model.specs.Space.{is_move}
 use Rattle.genie_base.specs.declared.semantics.Class.TheVariants.{Move}
 use Rattle.genie_frame.specs.declared.frame.Counts.{Counts}
 use Rattle.genie_frame.specs.declared.frame.OutLoan.{OutLoan}
-use Rattle.genie_frame.specs.declared.frame.Owner.{Owner}
 use Rattle.genie_frame.specs.declared.frame.Owner.TheVariants.{Page, System, Pool, Nobody}
 use Rattle.genie_frame.specs.FrameTable.{counts_at, is_held, is_system, owner_at}
 use Rattle.genie_input.specs.Pools.{PoolState}
 use Rattle.genie_object.specs.declared.memory.Memory.{Memory}
 use Rattle.genie_object.specs.Leaving.{IsUnheld}
 use Rattle.genie_object.specs.Memory.{entry_frame}
-use Rattle.genie_object.specs.Sound.{IsSound}
 use Rattle.genie_object.specs.Lemmas.Naming.{named_once}
 use Rattle.genie_plan.specs.Loans.{Loan, is_kind, loan_times, output_loan, output_loans}
 use Rattle.genie_plan.specs.Loans as kind
 use Rattle.genie_plan.specs.Plans.{output_frames, times}
 use Rattle.genie_plan.specs.Lemmas.Landings.{page_in, times_some}
 use Rattle.genie_region.specs.declared.region.Region.{Region}
-use Rattle.genie_model.specs.Lemmas.Lists.{Has, all_has, any_has, find_has, has_any, has_map}
+use Rattle.genie_model.specs.Lemmas.Lists.{Has, all_has, find_has, has_any, has_map}
 use Rattle.genie_model.specs.Pending as pending
 use Rattle.genie_model.specs.State as flat
 use Rattle.genie_model.specs.Tables.{entry}
@@ -40,7 +37,7 @@ use Rattle.genie_kernel.specs.Counted.{lent_of, loans_on, pool_on}
 use Rattle.genie_kernel.specs.Good.{IsGood}
 use Rattle.genie_kernel.specs.Held.{HoldsPages, IsInFrame, page_of_loan, region_named, weak_transfers}
 use Rattle.genie_kernel.specs.Loans.{frames_of, loans_of}
-use Rattle.genie_kernel.specs.Planned.{AreItsOwn, Lends, LendsIn, LendsInput, LendsOut, LendsStrongly, is_early_device}
+use Rattle.genie_kernel.specs.Planned.{Lends, LendsInput, LendsOut, LendsStrongly, is_early_device}
 use Rattle.genie_kernel.specs.Regions.{has_id, owned_regions}
 use Rattle.genie_kernel.specs.View.{no_bytes, outline}
 use Rattle.genie_kernel.specs.Lemmas.Staying.{at_least}

@@ -1,5 +1,4 @@
-use Rattle.std.proofs.Common.{arith}
-use Rattle.genie_arrivals.proofs.Emptying.{clears_all, clears_more, clears_none}
+use Rattle.genie_arrivals.proofs.Emptying.{clears_more, clears_none}
 use Rattle.genie_arrivals.proofs.clear.clear_object.Goals as goal
 
 pub entries-init : goal.entries-init

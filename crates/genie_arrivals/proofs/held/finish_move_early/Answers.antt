@@ -1,10 +1,9 @@
 use Rattle.std.proofs.Common.{arith, ◌≡◌, ◌*◌, ℕ, List, refl, sym, subst, ap, ◌∙◌}
-use Rattle.std.specs.Prelude.{None, Some, find, is_some}
+use Rattle.std.specs.Prelude.{Some, find, is_some}
 use Rattle.genie_base.specs.Transfers.{is_strong}
 use Rattle.genie_base.specs.declared.reply.Reply.TheVariants as reply
 use Rattle.genie_base.specs.declared.semantics.Class.TheVariants.{Move}
 use Rattle.genie_frame.specs.declared.frame.InLoan.{InLoan}
-use Rattle.genie_object.specs.declared.memory.Memory.{Memory}
 use Rattle.genie_plan.specs.Plans.{input_frames}
 use Rattle.genie_model.specs.Lemmas.Lists.{find_has}
 use Rattle.genie_model.specs.Tables.{entry, without}
@@ -14,7 +13,7 @@ use Rattle.genie_kernel.specs.Calls.{has_number}
 use Rattle.genie_kernel.specs.Planned.{LendsIn}
 use Rattle.genie_kernel.specs.Regions.{has_id, regions_of}
 use Rattle.genie_arrivals.specs.Cases.{IsInputOf}
-use Rattle.genie_arrivals.specs.Clearing.{ClearsObject, FillsObject}
+use Rattle.genie_arrivals.specs.Clearing.{FillsObject}
 use Rattle.genie_arrivals.specs.Live.{lively}
 use Rattle.genie_arrivals.specs.Paging.{EndsPaged}
 use Rattle.genie_arrivals.specs.Stored.{CanStoreBuffer}
