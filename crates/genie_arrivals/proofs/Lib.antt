@@ -14,4 +14,9 @@ mod Zeros
 mod Finishing
 mod Paging
 mod Closing
+mod Forbidding
+mod Emptying
+mod Unheld
+mod Filling
+mod Filled
 mod Moving

@@ -28,3 +28,11 @@ pub record IsGoneInput (devices : List (Option DeviceView)) (t : Transfer) : Typ
 
 abbrev pub IsEarlyGone : Kernel → ℕ → Type 0
 IsEarlyGone k n = IfSome (find (has_number n) k.transfers) (IsGoneInput k.devices)
+
+-- an input on an early device, of whatever class
+pub record IsAnyInput (devices : List (Option DeviceView)) (t : Transfer) : Type 0 where
+  pub inward : t.dir ≡ Inward
+  pub early : is_early_device (entry devices t.dev) ≡ true
+
+abbrev pub IsOnEarly : Kernel → ℕ → Type 0
+IsOnEarly k n = IfSome (find (has_number n) k.transfers) (IsAnyInput k.devices)

@@ -2,8 +2,12 @@
 #![tactic(auto)]
 
 mod back;
+mod clear;
 pub mod copy;
+mod fill;
+pub mod finish;
 pub mod gone;
+pub mod held;
 mod laws;
 mod live;
 mod owned;
@@ -12,3 +16,5 @@ pub mod share;
 mod store;
 mod target;
 pub mod weak_move;
+
+pub use crate::finish::finish_input_early;
