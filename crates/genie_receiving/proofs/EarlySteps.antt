@@ -43,13 +43,13 @@ use Rattle.genie_receiving.specs.Early.{IsWithin, IsWithinAt, IsOutside, IsOutsi
 use Rattle.genie_receiving.specs.Gathering.{IsBetween, GathersHeader, DropsRecord, dropped}
 use Rattle.genie_receiving.specs.Landing.{SkipsPayload}
 use Rattle.genie_receiving.specs.Receiving.{Receives, input_of}
-use Rattle.genie_receiving.proofs.Accepted.{may_receive}
-use Rattle.genie_receiving.proofs.Bytes.{append_none}
-use Rattle.genie_receiving.proofs.Gathered.{gathered_device, gathered_reply, gathered_receives, early_kind, handle_is, IsSkipped}
-use Rattle.genie_receiving.proofs.Good.{device_good, early_unpooled}
-use Rattle.genie_receiving.proofs.Kept.{kept_alone}
+use Rattle.genie_receiving.specs.Lemmas.Accepted.{may_receive}
+use Rattle.genie_receiving.specs.Lemmas.Bytes.{append_none}
+use Rattle.genie_receiving.specs.Lemmas.Gathered.{gathered_device, gathered_reply, gathered_receives, early_kind, handle_is, IsSkipped}
+use Rattle.genie_receiving.specs.Lemmas.Good.{device_good, early_unpooled}
+use Rattle.genie_receiving.specs.Lemmas.Kept.{kept_alone}
 use Rattle.genie_receiving.proofs.Landed.{HasMoved, caused_body, ending_body, has_moved, replied, the_datagram, unbuffered}
-use Rattle.genie_receiving.proofs.Marking.{plain_steps, rest_same, zeros_with, zeros_rest, orderly_behind}
+use Rattle.genie_receiving.specs.Lemmas.Marking.{plain_steps, rest_same, zeros_with, zeros_rest, orderly_behind}
 use Rattle.genie_receiving.proofs.Matched.{EndsPayload, after_moving, moving_keeps}
 use Rattle.genie_receiving.proofs.Begun.{beginning}
 use Rattle.genie_receiving.proofs.Matching.{begun_device, early_free, early_kept, not_full, set_again}

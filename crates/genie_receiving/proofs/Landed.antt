@@ -49,13 +49,13 @@ use Rattle.genie_receiving.specs.Early.{IsWithin, IsWithinAt, len_of}
 use Rattle.genie_receiving.specs.Laws.{ReceiveLaws}
 use Rattle.genie_receiving.specs.Payload.{MovesPayload}
 use Rattle.genie_receiving.specs.Receiving.{Receives, ArePages, input_of}
-use Rattle.genie_receiving.proofs.Accepted.{may_receive}
-use Rattle.genie_receiving.proofs.Bytes.{append_none}
-use Rattle.genie_receiving.proofs.Gathered.{early_kind, handle_is}
-use Rattle.genie_receiving.proofs.Good.{input_good, landed_good, with_landed}
+use Rattle.genie_receiving.specs.Lemmas.Accepted.{may_receive}
+use Rattle.genie_receiving.specs.Lemmas.Bytes.{append_none}
+use Rattle.genie_receiving.specs.Lemmas.Gathered.{early_kind, handle_is}
+use Rattle.genie_receiving.specs.Lemmas.Good.{input_good, landed_good, with_landed}
 use Rattle.genie_receiving.proofs.Inputs.{IsReceiver, is_receiver, is_stored}
-use Rattle.genie_receiving.proofs.Kept.{kept_worked}
-use Rattle.genie_receiving.proofs.Marking.{zeros_with, zeros_rest, orderly_behind}
+use Rattle.genie_receiving.specs.Lemmas.Kept.{kept_worked}
+use Rattle.genie_receiving.specs.Lemmas.Marking.{zeros_with, zeros_rest, orderly_behind}
 use Rattle.genie_receiving.proofs.Matched.{EndsPayload, after_moving, moving_keeps, moved_device, received_kernel}
 use Rattle.genie_receiving.proofs.Payloads.{ShowsLanded, work_on, receives_still}
 use Rattle.genie_receiving.proofs.Ready.{plan_of}

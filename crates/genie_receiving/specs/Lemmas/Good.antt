@@ -39,7 +39,7 @@ use Rattle.genie_kernel.specs.Lemmas.DeviceViews.{entry_view}
 use Rattle.genie_changes.specs.Working.{Work, at_work, worked, GetsBuffer, OthersStay}
 use Rattle.genie_receiving.specs.Devices.{with_device, KeepsPayload}
 use Rattle.genie_receiving.specs.Laws.{ReceiveLaws}
-use Rattle.genie_receiving.proofs.Views.{same_at, so_at}
+use Rattle.genie_receiving.specs.Lemmas.Views.{same_at, so_at}
 
 equipped_of : (page : ℕ) (c : Option DeviceConfig) (v w : DeviceView) (p : Option PoolState) → KeepsPayload v w → IsEquipped page c (Some v) p → IsEquipped page c (Some w) p
 equipped_of page None v w p k h = absurd h

@@ -33,7 +33,7 @@ use Rattle.genie_kernel.specs.View.{Bytes, bytes_with, state_of, outline, view}
 use Rattle.genie_kernel.specs.Lemmas.OpenHandles.{handles_kept}
 use Rattle.genie_kernel.specs.Lemmas.Stepping.{accepted_step}
 use Rattle.genie_receiving.specs.Receiving.{Receives, IsReceived, ArePages, HasPages, input_of}
-use Rattle.genie_receiving.proofs.Handles.{IsAlone, input_alone}
+use Rattle.genie_receiving.specs.Lemmas.Handles.{IsAlone, input_alone}
 
 option_same : (before after : HostView) (h : ℕ) (o : Option ℕ) → o ≢ Some h → OthersKept h before.handle after.handle → told_at after o ≡ told_at before o
 option_same before after h None other kept = refl
