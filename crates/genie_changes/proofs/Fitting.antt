@@ -66,9 +66,13 @@ of_live : (s : ℕ → ℕ → List ℕ) (n : ℕ) (o : Option (List Region)) (q
 of_live s n None q live none lists = absurd (cc)
 of_live s n (Some rs) q live none lists = none_listed n q (lists n ∙ none_out s n rs none)
 
-pub listed_in : (k : Kernel) (p n : ℕ) → IsGood k → IsOnlyIn n p k.spaces.processes → IsListedIn n p k.spaces.processes k.queues
-listed_in k p n g only i ne live =
+-- a process's queue lists no number that none of its regions has
+pub listed_none : (k : Kernel) → IsGood k → (i n : ℕ) → is_some (entry k.spaces.processes i) ≡ true → list_any (has_id n) (regions_of (entry k.spaces.processes i)) ≡ false → list_any (λ m. m == n) (get_or k.queues i []) ≡ false
+listed_none k g i n live none =
     let z : ℕ → ℕ → List ℕ = (no_bytes k.config.page).seen.entry_bytes in
     let q : List ℕ = get_or k.queues i [] in
     let lists : IfSome (process_view z (entry k.spaces.processes i) q) ListsOut = subst (λ o. IfSome o ListsOut) (process_entry z k.spaces.processes k.queues i) (g.orderly.weak i) in
-    of_live z n (entry k.spaces.processes i) q live (only i ne) lists
+    of_live z n (entry k.spaces.processes i) q live none lists
+
+pub listed_in : (k : Kernel) (p n : ℕ) → IsGood k → IsOnlyIn n p k.spaces.processes → IsListedIn n p k.spaces.processes k.queues
+listed_in k p n g only i ne live = listed_none k g i n live (only i ne)

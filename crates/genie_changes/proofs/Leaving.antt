@@ -50,7 +50,7 @@ owned_none n [] h = refl
 owned_none n (y ∷ ps) h = filter-append (λ q. not (has_id n q)) (regions_of y) (owned_regions ps) ∙ ap₂ ◌++◌ (none_less n (regions_of y) (h 0)) (owned_none n ps (λ i. h (suc i)))
 
 -- the regions of all processes without it
-owned_left : (n : ℕ) (ps : List (Option (List Region))) (p : ℕ) (rs : List Region) → entry ps p ≡ Some rs → IsOnlyIn n p ps → owned_regions (set ps p (Some (without_number n rs))) ≡ without_number n (owned_regions ps)
+pub owned_left : (n : ℕ) (ps : List (Option (List Region))) (p : ℕ) (rs : List Region) → entry ps p ≡ Some rs → IsOnlyIn n p ps → owned_regions (set ps p (Some (without_number n rs))) ≡ without_number n (owned_regions ps)
 owned_left n [] p rs e only = refl
 owned_left n (y ∷ ps) zero rs e only =
     sym (filter-append (λ q. not (has_id n q)) (regions_of y) (owned_regions ps)
@@ -59,12 +59,12 @@ owned_left n (y ∷ ps) (suc p) rs e only =
     sym (filter-append (λ q. not (has_id n q)) (regions_of y) (owned_regions ps)
     ∙ ap₂ ◌++◌ (none_less n (regions_of y) (only 0 (omega arith))) (sym (owned_left n ps p rs e (λ i ne. only (suc i) (λ same. ne (suc_same i p same))))))
 
-found_here : (n : ℕ) (ps : List (Option (List Region))) (p : ℕ) (rs : List Region) (r : Region) → entry ps p ≡ Some rs → find (has_id n) rs ≡ Some r → IsOnlyIn n p ps → find (has_id n) (owned_regions ps) ≡ Some r
+pub found_here : (n : ℕ) (ps : List (Option (List Region))) (p : ℕ) (rs : List Region) (r : Region) → entry ps p ≡ Some rs → find (has_id n) rs ≡ Some r → IsOnlyIn n p ps → find (has_id n) (owned_regions ps) ≡ Some r
 found_here n [] p rs r e f only = absurd (cc)
 found_here n (y ∷ ps) zero rs r e f only = find-append (has_id n) (regions_of y) (owned_regions ps) ∙ ap (λ o. option_or o (find (has_id n) (owned_regions ps))) (ap (λ (z : Option (List Region)). find (has_id n) (regions_of z)) e ∙ f)
 found_here n (y ∷ ps) (suc p) rs r e f only = find-append (has_id n) (regions_of y) (owned_regions ps) ∙ ap (λ o. option_or o (find (has_id n) (owned_regions ps))) (find_none (has_id n) (regions_of y) (only 0 (omega arith))) ∙ found_here n ps p rs r e f (λ i ne. only (suc i) (λ same. ne (suc_same i p same)))
 
-gone_left : (n : ℕ) (rs : List Region) → list_any (has_id n) (without_number n rs) ≡ false
+pub gone_left : (n : ℕ) (rs : List Region) → list_any (has_id n) (without_number n rs) ≡ false
 gone_left n [] = refl
 gone_left n (r ∷ rs) = elim (has_id n r) as (λ b. has_id n r ≡ b → list_any (has_id n) (cond (not b) (r ∷ without_number n rs) (without_number n rs)) ≡ false) [
   | true ↦ λ e. gone_left n rs
@@ -74,14 +74,14 @@ gone_left n (r ∷ rs) = elim (has_id n r) as (λ b. has_id n r ≡ b → list_a
 other_fails : (n k : ℕ) (r : Region) → k ≢ n → has_id n r ≡ true → has_id k r ≡ false
 other_fails n k r ne e = grind (arith, rules, ne, e)
 
-other_found : (n k : ℕ) (rs : List Region) → k ≢ n → find (has_id k) (without_number n rs) ≡ find (has_id k) rs
+pub other_found : (n k : ℕ) (rs : List Region) → k ≢ n → find (has_id k) (without_number n rs) ≡ find (has_id k) rs
 other_found n k [] ne = refl
 other_found n k (r ∷ rs) ne = elim (has_id n r) as (λ b. has_id n r ≡ b → find (has_id k) (cond (not b) (r ∷ without_number n rs) (without_number n rs)) ≡ find (has_id k) (r ∷ rs)) [
   | true ↦ λ e. other_found n k rs ne ∙ sym (ap (λ b. cond b (Some r) (find (has_id k) rs)) (other_fails n k r ne e))
   | false ↦ λ e. ap (cond (has_id k r) (Some r)) (other_found n k rs ne)
 ] refl
 
-other_any : (n k : ℕ) (rs : List Region) → k ≢ n → list_any (has_id k) (without_number n rs) ≡ list_any (has_id k) rs
+pub other_any : (n k : ℕ) (rs : List Region) → k ≢ n → list_any (has_id k) (without_number n rs) ≡ list_any (has_id k) rs
 other_any n k [] ne = refl
 other_any n k (r ∷ rs) ne = elim (has_id n r) as (λ b. has_id n r ≡ b → list_any (has_id k) (cond (not b) (r ∷ without_number n rs) (without_number n rs)) ≡ (has_id k r || list_any (has_id k) rs)) [
   | true ↦ λ e. other_any n k rs ne ∙ sym (ap (λ b. b || list_any (has_id k) rs) (other_fails n k r ne e))
@@ -107,7 +107,7 @@ two_counted f a b (x ∷ rs) ne (inl h) (inr k) = let same : f x ≡ f a = ap f 
 two_counted f a b (x ∷ rs) ne (inr h) (inl k) = let same : f x ≡ f b = ap f k in omega (arith, sum_by-cons f x rs, same, at_least f rs a h)
 two_counted f a b (x ∷ rs) ne (inr h) (inr k) = omega (arith, sum_by-cons f x rs, two_counted f a b rs ne h k)
 
-objects_differ : (objects : List (List Entry)) (regions : List Region) (a b : Region) → AreBacked objects regions → a.id.0 ≢ b.id.0 → Has a regions → Has b regions → a.object.0 ≢ b.object.0
+pub objects_differ : (objects : List (List Entry)) (regions : List Region) (a b : Region) → AreBacked objects regions → a.id.0 ≢ b.id.0 → Has a regions → Has b regions → a.object.0 ≢ b.object.0
 objects_differ objects regions a b h ne there here same =
     let o : ℕ = b.object.0 in
     let f : Region → ℕ = λ (x : Region). one_if (has_object o x) in
@@ -173,7 +173,7 @@ later_none : (n : ℕ) (x : Region) (rs : List Region) → has_id n x ≡ true �
 later_none n x rs is differ = none_from (has_id n) rs (λ y there. let ne = differ y there in grind (arith, rules, is, ne))
 
 -- the one that goes takes away what it adds to a sum
-sum_left : (f : Region → ℕ) (n : ℕ) (r : Region) (rs : List Region) → find (has_id n) rs ≡ Some r → AllPairs (λ (a b : Region). a.id.0 ≢ b.id.0) rs → sum_by f (without_number n rs) + f r ≡ sum_by f rs
+pub sum_left : (f : Region → ℕ) (n : ℕ) (r : Region) (rs : List Region) → find (has_id n) rs ≡ Some r → AllPairs (λ (a b : Region). a.id.0 ≢ b.id.0) rs → sum_by f (without_number n rs) + f r ≡ sum_by f rs
 sum_left f n r [] e apart = absurd (cc)
 sum_left f n r (x ∷ rs) e apart = elim (has_id n x) as (λ b. has_id n x ≡ b → cond b (Some x) (find (has_id n) rs) ≡ Some r → sum_by f (cond (not b) (x ∷ without_number n rs) (without_number n rs)) + f r ≡ sum_by f (x ∷ rs)) [
   | true ↦ λ is h.

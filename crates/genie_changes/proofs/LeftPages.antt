@@ -40,7 +40,7 @@ regions_seen s (Some rs ∷ ps) [] = ap (λ l. map (region_view s) rs ++ l) (reg
 regions_seen s (Some rs ∷ ps) (q ∷ qs) = ap (λ l. map (region_view s) rs ++ l) (regions_seen s ps qs) ∙ sym (map_joined (region_view s) rs (owned_regions ps))
 
 -- a range that lies in what is a region lies in the region
-in_region : (t : flat.Transfer) (o : Option flat.Region) (p : Option flat.Orphan) (r : flat.Region) → o ≡ Some r → p ≡ None → (LiesInRegion t o ⊎ LiesInOrphan t p) → t.offset + t.len ≤ length r.bytes
+pub in_region : (t : flat.Transfer) (o : Option flat.Region) (p : Option flat.Orphan) (r : flat.Region) → o ≡ Some r → p ≡ None → (LiesInRegion t o ⊎ LiesInOrphan t p) → t.offset + t.len ≤ length r.bytes
 in_region t o p r is none h = ⊎_elim (λ lies. subst (LiesInRegion t) is lies) (λ lies. absurd (subst (LiesInOrphan t) none lies)) h
 
 module _ (k : Kernel) (r : Region) (entries : ℕ → ℕ → List ℕ) (new : ℕ → List ℕ) (g : IsGood k) (some : 0 < k.config.page) (found : find (has_id r.id.0) (owned_regions k.spaces.processes) ≡ Some r) (left : ShowsLeft k r entries new) where

@@ -1,0 +1,17 @@
+mod Owning
+mod Found
+mod Replying
+mod Alone
+mod Lent
+mod Quiet
+mod Lively
+mod Reaching
+mod Readying
+mod Joining
+mod Swapped
+mod Putting
+mod Zeros
+mod Finishing
+mod Paging
+mod Closing
+mod Moving

@@ -1,0 +1,12 @@
+pub mod Owners
+pub mod Replies
+pub mod Cases
+pub mod Backing
+pub mod Ends
+pub mod EndLaws
+pub mod Live
+pub mod Targets
+pub mod CopyLaws
+pub mod Stored
+pub mod SwapLaws
+pub mod Failing

@@ -1,0 +1,14 @@
+//! The end of an input: `done` gives the process what has come of a datagram, and gives back what was lent.
+#![tactic(auto)]
+
+mod back;
+pub mod copy;
+pub mod gone;
+mod laws;
+mod live;
+mod owned;
+mod room;
+pub mod share;
+mod store;
+mod target;
+pub mod weak_move;

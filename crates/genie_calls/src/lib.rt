@@ -1,0 +1,5 @@
+//! The kernel's calls.
+#![tactic(auto)]
+
+pub mod close;
+mod laws;

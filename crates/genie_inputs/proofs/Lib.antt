@@ -1,0 +1,14 @@
+mod Accepted
+mod Answered
+mod Buffered
+mod Copying
+mod Enlarged
+mod Holding
+mod Lending
+mod MovedIn
+mod Placing
+mod Readied
+mod Refilling
+mod Sharing
+mod Targeting
+mod Weakly
