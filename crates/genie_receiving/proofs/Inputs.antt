@@ -26,7 +26,7 @@ use Rattle.genie_kernel.specs.Planned.{is_early_device}
 use Rattle.genie_kernel.specs.Transfers.{transfer_view}
 use Rattle.genie_kernel.specs.View.{outline, no_bytes}
 use Rattle.genie_receiving.specs.Laws.{ReceiveLaws}
-use Rattle.genie_receiving.proofs.Gathered.{found_posted}
+use Rattle.genie_receiving.specs.Lemmas.Gathered.{found_posted}
 use Rattle.genie_receiving.proofs.Payloads.{IsInputOf}
 use Rattle.genie_receiving.proofs.Ready.{IsEarlyInput}
 

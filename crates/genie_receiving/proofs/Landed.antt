@@ -48,14 +48,14 @@ use Rattle.genie_receiving.specs.Landing.{ReceivesInto, reply_to, work_of}
 use Rattle.genie_receiving.specs.Early.{IsWithin, IsWithinAt, len_of}
 use Rattle.genie_receiving.specs.Laws.{ReceiveLaws}
 use Rattle.genie_receiving.specs.Payload.{MovesPayload}
-use Rattle.genie_receiving.specs.Receiving.{Receives, ArePages, input_of}
-use Rattle.genie_receiving.proofs.Accepted.{may_receive}
-use Rattle.genie_receiving.proofs.Bytes.{append_none}
-use Rattle.genie_receiving.proofs.Gathered.{early_kind, handle_is}
-use Rattle.genie_receiving.proofs.Good.{input_good, landed_good, with_landed}
+use Rattle.genie_receiving.specs.Receiving.{Receives, ArePages, input_of, with_landed}
+use Rattle.genie_receiving.specs.Lemmas.Accepted.{may_receive}
+use Rattle.genie_receiving.specs.Lemmas.Bytes.{append_none}
+use Rattle.genie_receiving.specs.Lemmas.Gathered.{early_kind, handle_is}
+use Rattle.genie_receiving.specs.Lemmas.Good.{input_good, landed_good}
 use Rattle.genie_receiving.proofs.Inputs.{IsReceiver, is_receiver, is_stored}
-use Rattle.genie_receiving.proofs.Kept.{kept_worked}
-use Rattle.genie_receiving.proofs.Marking.{zeros_with, zeros_rest, orderly_behind}
+use Rattle.genie_receiving.specs.Lemmas.Kept.{kept_worked}
+use Rattle.genie_receiving.specs.Lemmas.Marking.{zeros_with, zeros_rest, orderly_behind}
 use Rattle.genie_receiving.proofs.Matched.{EndsPayload, after_moving, moving_keeps, moved_device, received_kernel}
 use Rattle.genie_receiving.proofs.Payloads.{ShowsLanded, work_on, receives_still}
 use Rattle.genie_receiving.proofs.Ready.{plan_of}
@@ -225,9 +225,7 @@ within_receives laws k new d n len t old now r good accepted at receives law x =
           (stored_now course g count g.header.len v t (receiver (worked (has_number number) work k.transfers) d) still) orderly);
       kept = kept_worked (has_number number) work k new good x.lands.only.owners transfers;
       config = ap (λ (y : Kernel). y.config) x.only;
-      page = x.lands.only.page;
-      slots = lands.slots;
-      meters = x.lands.only.meters;
+      memory = memory;
       landed = x.lands.most;
       taken = m.taken;
       ended = over.ended;

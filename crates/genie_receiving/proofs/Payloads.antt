@@ -29,8 +29,8 @@ use Rattle.genie_kernel.specs.Lemmas.Processes.{find_map}
 use Rattle.genie_changes.specs.Working.{Work, at_work, worked}
 use Rattle.genie_receiving.specs.Devices.{with_device, with_rest, KeepsPayload}
 use Rattle.genie_receiving.specs.Laws.{ReceiveLaws}
-use Rattle.genie_receiving.proofs.Flat.{device_changed}
-use Rattle.genie_receiving.proofs.Views.{device_state, worked_state, seen_device, receiver_same, absent_same, found_still, receiver_elsewhere}
+use Rattle.genie_receiving.specs.Lemmas.Flat.{device_changed}
+use Rattle.genie_receiving.specs.Lemmas.Views.{device_state, worked_state, seen_device, receiver_same, absent_same, found_still, receiver_elsewhere}
 
 -- a transfer of a kernel, as it is seen
 abbrev pub seen_transfer : Kernel → Bytes → Transfer → flat.Transfer

@@ -38,7 +38,7 @@ use Rattle.genie_kernel.specs.Loans.{frames_of, loans_of}
 use Rattle.genie_kernel.specs.Planned.{Lends, LendsInput, LendsIn, LendsRange, AreItsOwn, FitsDevice, is_early_device}
 use Rattle.genie_kernel.specs.Regions.{owned_regions}
 use Rattle.genie_kernel.specs.Lemmas.Staying.{at_least}
-use Rattle.genie_receiving.proofs.Good.{configured}
+use Rattle.genie_receiving.specs.Lemmas.Good.{configured}
 
 -- the plan of an input that bytes land in
 pub record HasRange (page : ℕ) (t : Transfer) (l : Loans) : Type 0 where

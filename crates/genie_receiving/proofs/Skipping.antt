@@ -29,11 +29,11 @@ use Rattle.genie_receiving.specs.Course.{course_of, is_faulted}
 use Rattle.genie_receiving.specs.declared.course.Course.TheVariants.{GoesOn, Ends}
 use Rattle.genie_receiving.specs.Devices.{with_device, with_rest, KeepsPayload}
 use Rattle.genie_receiving.specs.Receiving.{MayBeLeft}
-use Rattle.genie_receiving.proofs.Bytes.{none_taken, payload_is}
-use Rattle.genie_receiving.proofs.Flat.{HasPresent, recv_within, payload_moved, may_fail_within, goes_on, is_over, is_cut_off}
-use Rattle.genie_receiving.proofs.Gathered.{set_same}
-use Rattle.genie_receiving.proofs.Good.{early_unpooled}
-use Rattle.genie_receiving.proofs.Marking.{plain_steps, failed_steps, rest_same}
+use Rattle.genie_receiving.specs.Lemmas.Bytes.{none_taken, payload_is}
+use Rattle.genie_receiving.specs.Lemmas.Flat.{HasPresent, recv_within, payload_moved, may_fail_within, goes_on, is_over, is_cut_off}
+use Rattle.genie_receiving.specs.Lemmas.Gathered.{set_same}
+use Rattle.genie_receiving.specs.Lemmas.Good.{early_unpooled}
+use Rattle.genie_receiving.specs.Lemmas.Marking.{plain_steps, failed_steps, rest_same}
 use Rattle.genie_receiving.proofs.Matched.{EndsPayload, taken_all, after_moving, moving_keeps, flat_device}
 use Rattle.genie_receiving.proofs.Payloads.{skipped_datagram, skipped_view, set_state}
 use Rattle.genie_receiving.proofs.Within.{some_left, body_reply, inside_payload}

@@ -38,14 +38,14 @@ use Rattle.genie_receiving.specs.Devices.{with_rest, KeepsPayload}
 use Rattle.genie_receiving.specs.Landing.{work_of}
 use Rattle.genie_receiving.specs.Laws.{ReceiveLaws}
 use Rattle.genie_receiving.specs.Receiving.{MayBeLeft}
-use Rattle.genie_receiving.proofs.Bytes.{none_taken, payload_is}
-use Rattle.genie_receiving.proofs.Flat.{HasPresent, recv_within, payload_moved, may_fail_within}
-use Rattle.genie_receiving.proofs.Gathered.{set_same}
-use Rattle.genie_receiving.proofs.Marking.{plain_steps, failed_steps, rest_same}
+use Rattle.genie_receiving.specs.Lemmas.Bytes.{none_taken, payload_is}
+use Rattle.genie_receiving.specs.Lemmas.Flat.{HasPresent, recv_within, payload_moved, may_fail_within}
+use Rattle.genie_receiving.specs.Lemmas.Gathered.{set_same}
+use Rattle.genie_receiving.specs.Lemmas.Marking.{plain_steps, failed_steps, rest_same}
 use Rattle.genie_receiving.proofs.Matched.{EndsPayload, taken_all, after_moving, received_kernel, flat_device, went_on}
 use Rattle.genie_receiving.proofs.Payloads.{ShowsLanded, IsInputOf, matched_datagram, matched_view, numbered, work_on}
-use Rattle.genie_receiving.proofs.Views.{worked_same}
-use Rattle.genie_receiving.proofs.Good.{early_unpooled}
+use Rattle.genie_receiving.specs.Lemmas.Views.{worked_same}
+use Rattle.genie_receiving.specs.Lemmas.Good.{early_unpooled}
 
 under_way : (k : Kernel) (d : ℕ) (v : DeviceView) (g : Present) → (x : flat.Device) → (y : flat.Datagram) → x.present ≡ Some y → ReceivesForInput (outline k) d (Some x) → y.moved < y.len
 under_way k d v g x y is h =

@@ -17,7 +17,7 @@ use Rattle.genie_kernel.specs.Loans.{frames_of, first_of}
 use Rattle.genie_kernel.specs.Orphans.{covers, is_orphan, lent_bytes, byte_under, orphan_byte, orphan_view, all_places, all_numbers}
 use Rattle.genie_kernel.specs.Regions.{owned_regions, object_bytes, region_view, process_view, processes_view}
 use Rattle.genie_kernel.specs.View.{state_of}
-use Rattle.genie_receiving.proofs.Marking.{zeros_with}
+use Rattle.genie_receiving.specs.Lemmas.Marking.{zeros_with}
 use Rattle.genie_receiving.proofs.Payloads.{ShowsLanded, seen_transfer}
 use Rattle.genie_receiving.proofs.Ready.{HasRange, span_covers}
 

@@ -19,8 +19,8 @@ use Rattle.genie_kernel.specs.Handles.{HasHandles}
 use Rattle.genie_kernel.specs.Told.{input_at}
 use Rattle.genie_kernel.specs.View.{outline}
 use Rattle.genie_receiving.specs.Receiving.{input_of}
-use Rattle.genie_receiving.proofs.Good.{configured}
-use Rattle.genie_receiving.proofs.Handles.{input_open}
+use Rattle.genie_receiving.specs.Lemmas.Good.{configured}
+use Rattle.genie_receiving.specs.Lemmas.Handles.{input_open}
 
 entry_mapped : {X Y : Type 0} (f : X → Y) (xs : List (Option X)) (d : ℕ) → entry (map (option_map f) xs) d ≡ option_map f (entry xs d)
 entry_mapped f [] d = refl

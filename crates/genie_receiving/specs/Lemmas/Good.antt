@@ -39,7 +39,8 @@ use Rattle.genie_kernel.specs.Lemmas.DeviceViews.{entry_view}
 use Rattle.genie_changes.specs.Working.{Work, at_work, worked, GetsBuffer, OthersStay}
 use Rattle.genie_receiving.specs.Devices.{with_device, KeepsPayload}
 use Rattle.genie_receiving.specs.Laws.{ReceiveLaws}
-use Rattle.genie_receiving.proofs.Views.{same_at, so_at}
+use Rattle.genie_receiving.specs.Receiving.{with_landed}
+use Rattle.genie_receiving.specs.Lemmas.Views.{same_at, so_at}
 
 equipped_of : (page : ℕ) (c : Option DeviceConfig) (v w : DeviceView) (p : Option PoolState) → KeepsPayload v w → IsEquipped page c (Some v) p → IsEquipped page c (Some w) p
 equipped_of page None v w p k h = absurd h
@@ -227,10 +228,6 @@ input_good laws k d n v w t work posted g there early kept found dev was is had 
           (subst (λ o. IfSome o (λ (x : DeviceView). IfSome x.present (λ (q : Present). IfSome (receiver ts t.dev) (IsStored q)))) (sym here) (subst (λ j. IfSome w.present (λ (q : Present). IfSome (receiver ts j) (IsStored q))) (sym dev) stored)) g.receiving;
       arrived = laws.arrived p work t k.transfers k.devices devices k.pools k.pools found gets g.arrived;
     }
-
--- the memory with other bytes in its frames
-abbrev pub with_landed : Memory → List (List ℕ) → ℕ → Memory
-with_landed m bytes landed = record m { frames = record (m.frames) { bytes = bytes; landed = landed } }
 
 still_in : (m : Memory) (bytes : List (List ℕ)) (landed : ℕ) (r : Option Region) (i f : ℕ) → IsInFrame m r i f → IsInFrame (with_landed m bytes landed) r i f
 still_in m bytes landed None i f h = h

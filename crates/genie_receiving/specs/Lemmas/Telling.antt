@@ -33,7 +33,7 @@ use Rattle.genie_kernel.specs.View.{Bytes, bytes_with, state_of, outline, view}
 use Rattle.genie_kernel.specs.Lemmas.OpenHandles.{handles_kept}
 use Rattle.genie_kernel.specs.Lemmas.Stepping.{accepted_step}
 use Rattle.genie_receiving.specs.Receiving.{Receives, IsReceived, ArePages, HasPages, input_of}
-use Rattle.genie_receiving.proofs.Handles.{IsAlone, input_alone}
+use Rattle.genie_receiving.specs.Lemmas.Handles.{IsAlone, input_alone}
 
 option_same : (before after : HostView) (h : ℕ) (o : Option ℕ) → o ≢ Some h → OthersKept h before.handle after.handle → told_at after o ≡ told_at before o
 option_same before after h None other kept = refl
@@ -161,7 +161,7 @@ module _ (d n : ℕ) (before after : HostView) (store : StoreView) (old new : Ke
       let sent : ℕ → List ℕ = by_number ss in
       let steps = h.steps more rest sent left.rest are left.is (λ ended. end_left _ left.rest left.told_rest (h.at_end ended)) in
       let was : seen old.memory more ≡ seen old.memory slots = seen_paged old.memory page slots good.sound in
-      let is : seen new.memory more ≡ seen new.memory slots = ap (λ c. seen new.memory (paged c page slots)) (sym (ap length h.slots)) ∙ seen_paged new.memory page slots h.good.sound in
+      let is : seen new.memory more ≡ seen new.memory slots = ap (λ (m : Memory). seen new.memory (paged (length m.slots) page slots)) (sym h.memory) ∙ seen_paged new.memory page slots h.good.sound in
       let now : Bytes = record { seen = seen new.memory slots; rests = λ j. if j == d then left.rest else rest j; sents = sent } in
       let flat : Steps (state_of old (record { seen = seen old.memory slots; rests = rest; sents = sent })) (Recv d n) (state_of new now) r =
       subst (λ (z : Seen). Steps (state_of old (record { seen = z; rests = rest; sents = sent })) (Recv d n) (state_of new now) r) was
@@ -184,10 +184,10 @@ is_received d n before after old new r good accepted handles input h = record {
   kept = h.kept;
   config = h.config;
   step = λ store sized pages. received_told d n before after store old new r good accepted (input_alone old.config before d (input_of old.config d) handles input) h sized pages;
-  sized = λ store sized. record { count = sized.count ∙ sym (ap length h.slots); page = sized.page ∙ sym h.page };
+  sized = λ store sized. record { count = sized.count ∙ sym (ap (λ (m : Memory). length m.slots) h.memory); page = sized.page ∙ sym (ap (λ (m : Memory). m.frames.page) h.memory) };
   cause = h.cause;
   only = h.only;
   handles = subst (λ (c : Config). HasHandles c after) (sym h.config) (handles_kept old.config (input_of old.config d) before after h.only handles);
-  meters = h.meters;
+  memory = h.memory;
   landed = h.landed;
 }

@@ -13,7 +13,7 @@ use Rattle.genie_model.specs.declared.phase.Phase.TheVariants.{Moving}
 use Rattle.genie_model.specs.Space.{Outcome}
 use Rattle.genie_model.specs.State.{State, Device, Datagram}
 use Rattle.genie_model.specs.Tables.{entry}
-use Rattle.genie_receiving.proofs.Bytes.{take_front, drop_front, short_taken, whole_taken}
+use Rattle.genie_receiving.specs.Lemmas.Bytes.{take_front, drop_front, short_taken, whole_taken}
 
 -- a device between records, or inside a header, that isn't busy
 pub record Gathers (s : State) (d : ℕ) (v : Device) : Type 0 where

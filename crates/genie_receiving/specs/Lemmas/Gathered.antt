@@ -46,12 +46,12 @@ use Rattle.genie_kernel.specs.Lemmas.Tidying.{tidy_view}
 use Rattle.genie_receiving.specs.Devices.{with_device, with_rest, KeepsPayload}
 use Rattle.genie_receiving.specs.Gathering.{IsBetween}
 use Rattle.genie_receiving.specs.Receiving.{Receives, MayBeLeft, input_of}
-use Rattle.genie_receiving.proofs.Bytes.{short_taken, append_none, none_taken}
-use Rattle.genie_receiving.proofs.Flat.{Gathers, device_changed, recv_more, recv_bad, recv_skipped, may_fail_short}
-use Rattle.genie_receiving.proofs.Good.{early_unpooled, none_received, configured, device_good}
-use Rattle.genie_receiving.proofs.Kept.{kept_alone}
-use Rattle.genie_receiving.proofs.Marking.{plain_steps, failed_steps, header_mark, zeros_with, zeros_rest, orderly_behind}
-use Rattle.genie_receiving.proofs.Views.{device_state}
+use Rattle.genie_receiving.specs.Lemmas.Bytes.{short_taken, append_none, none_taken}
+use Rattle.genie_receiving.specs.Lemmas.Flat.{Gathers, device_changed, recv_more, recv_bad, recv_skipped, may_fail_short}
+use Rattle.genie_receiving.specs.Lemmas.Good.{early_unpooled, none_received, configured, device_good}
+use Rattle.genie_receiving.specs.Lemmas.Kept.{kept_alone}
+use Rattle.genie_receiving.specs.Lemmas.Marking.{plain_steps, failed_steps, header_mark, zeros_with, zeros_rest, orderly_behind}
+use Rattle.genie_receiving.specs.Lemmas.Views.{device_state}
 
 -- the device behind a step that gathered these bytes, and began no datagram that goes to an input
 abbrev pub gathered_device : HeaderEnd → List ℕ → DeviceView → DeviceView
@@ -305,9 +305,7 @@ gathered_receives law k d n v taken moved end before after g accepted there betw
       good = gathered_good law k d n v taken end e.ended g accepted there between free skip within e.so;
       kept = kept_alone k new g refl refl;
       config = refl;
-      page = refl;
-      slots = refl;
-      meters = refl;
+      memory = refl;
       landed = omega arith;
       taken = taken;
       ended = e.ended;
