@@ -10,3 +10,4 @@ pub mod CopyLaws
 pub mod Stored
 pub mod SwapLaws
 pub mod Failing
+pub mod Waiting
