@@ -42,3 +42,5 @@ pub mod RegionTurned
 pub mod UnnamedGone
 pub mod BuffersAlike
 pub mod BufferFreed
+pub mod RegionHidden
+pub mod StateHidden
