@@ -3,3 +3,4 @@
 
 pub mod close;
 mod laws;
+mod spaces;
