@@ -4,6 +4,7 @@ mod Replying
 mod Alone
 mod Lent
 mod Quiet
+mod Buffered
 mod Lively
 mod Reaching
 mod Readying

@@ -12,3 +12,4 @@ pub mod SwapLaws
 pub mod Failing
 pub mod Clearing
 pub mod Paging
+pub mod Waiting

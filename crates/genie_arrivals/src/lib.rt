@@ -10,10 +10,12 @@ pub mod held;
 mod laws;
 mod live;
 mod owned;
+mod release;
 mod room;
 pub mod share;
 mod store;
 mod target;
+pub mod waiting;
 pub mod weak_move;
 
 pub use crate::finish::finish_input_early;

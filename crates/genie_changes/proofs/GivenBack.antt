@@ -1,6 +1,6 @@
 -- A transfer gives its wires and loans back: what is left of the frames of the others, and what is seen.
 use Rattle.std.proofs.Common.{◌≡◌, ◌≢◌, ℕ, ◌+◌, ◌-◌, ◌<◌, zero, suc, Bool, true, false, cond, List, [], ◌∷◌, refl, sym, ap, subst, arith, rules, ◌∙◌, ◌⊎◌, inl, inr, ⊎_elim, map, filter, length, get_or}
-use Rattle.std.specs.Prelude.{Option, Some, None, All, AllPairs, IfSome, find, sum_by, count_by, if◌then◌else◌, ◌==◌, ◌&&◌, ◌||◌}
+use Rattle.std.specs.Prelude.{Option, Some, None, All, AllPairs, IfSome, find, sum_by, if◌then◌else◌, ◌==◌, ◌&&◌, ◌||◌}
 use Rattle.std.specs.List.{list_any}
 use Rattle.std.proofs.lemmas.Bool.{cases_Bool}
 use Rattle.std.proofs.lemmas.List.Sums.{sum_by-cons}
@@ -18,12 +18,12 @@ use Rattle.genie_frame.specs.Frames.{unowned}
 use Rattle.genie_input.specs.Pools.{PoolState}
 use Rattle.genie_object.specs.declared.memory.Memory.{Memory}
 use Rattle.genie_object.specs.Memory.{seen, is_kept}
-use Rattle.genie_object.specs.Sound.{IsSound, FitsHidden}
+use Rattle.genie_object.specs.Sound.{FitsHidden}
 use Rattle.genie_plan.specs.Ending.{CanEnd, ShowsStill}
 use Rattle.genie_plan.specs.Loans.{Loan, LoanKind, Ended, let_go, loan_times, is_kind, output_loan, output_loans, input_loan, input_loans}
 use Rattle.genie_plan.specs.Loans as kind
 use Rattle.genie_plan.specs.Plans.{times, input_frames}
-use Rattle.genie_plan.specs.Wiring.{Unwired, KeepsAll}
+use Rattle.genie_plan.specs.Wiring.{KeepsAll}
 use Rattle.genie_plan.specs.Lemmas.Ended.{ends_soundly, shows_after}
 use Rattle.genie_plan.specs.Lemmas.Ending.{frame_times, frame_cons, kinds_sum, some_or, loan_cons}
 use Rattle.genie_plan.specs.Lemmas.Wiring.{unwires_keep_all}
@@ -33,15 +33,15 @@ use Rattle.genie_kernel.specs.declared.transfer.Loans.{Loans}
 use Rattle.genie_kernel.specs.declared.transfer.Loans.TheVariants.{Nothing, Outward, Inward}
 use Rattle.genie_kernel.specs.declared.transfer.Transfer.{Transfer}
 use Rattle.genie_kernel.specs.Calls.{has_number, number_of, is_strong_call}
-use Rattle.genie_kernel.specs.Counted.{AreCounted, loans_on, wires_on, pool_on, is_wiring, lent_of}
+use Rattle.genie_kernel.specs.Counted.{AreCounted, loans_on, wires_on, pool_on, is_wiring}
 use Rattle.genie_kernel.specs.Holding.{LoansEnd}
 use Rattle.genie_kernel.specs.Kept.{KeepsOwner}
 use Rattle.genie_kernel.specs.Lending.{GivesBack, without_loans}
 use Rattle.genie_kernel.specs.Loans.{frames_of, loans_of, has_frame}
-use Rattle.genie_kernel.specs.Owners.{AreOwned, holders}
+use Rattle.genie_kernel.specs.Owners.{holders}
 use Rattle.genie_kernel.specs.Owning.{LetsGo}
 use Rattle.genie_kernel.specs.Planned.{ArePlanned, Lends, LendsOut, LendsIn, LendsInput, is_early_device}
-use Rattle.genie_kernel.specs.Same.{SameFrames, ShowSame, PoolsShowSame}
+use Rattle.genie_kernel.specs.Same.{ShowSame}
 use Rattle.genie_kernel.specs.Lemmas.Beside.{filter_beside}
 use Rattle.genie_kernel.specs.Lemmas.Lending.{counts_shrink}
 use Rattle.genie_kernel.specs.Lemmas.Staying.{at_least, lent_true}

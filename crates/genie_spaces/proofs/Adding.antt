@@ -34,7 +34,7 @@ use Rattle.genie_spaces.specs.Clearing.{Adds, Clears, HasRoom}
 use Rattle.genie_spaces.specs.RegionLaws.{RegionLaws}
 use Rattle.genie_spaces.specs.Serving.{IsServed}
 use Rattle.genie_spaces.proofs.Keeping.{keeps_bytes}
-use Rattle.genie_spaces.proofs.Making.{made, absent_bytes, zero_bytes, seen_made, touches_made, hidden_made, held_made}
+use Rattle.genie_spaces.specs.Lemmas.Making.{made, absent_bytes, zero_bytes, seen_made, touches_made, hidden_made, held_made}
 
 some_there : (es : List Entry) (n : ℕ) → length es ≡ n → 0 < n → is_absent es ≡ false
 some_there [] n e l = absurd (omega (arith, e, l))

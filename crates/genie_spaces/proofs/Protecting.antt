@@ -36,7 +36,7 @@ use Rattle.genie_spaces.specs.Permissions.{Guards}
 use Rattle.genie_spaces.specs.RegionLaws.{RegionLaws}
 use Rattle.genie_spaces.specs.Serving.{IsServed}
 use Rattle.genie_spaces.specs.Tables.{moded, with_mode, with_objects}
-use Rattle.genie_spaces.proofs.Forbidding.{narrowed_keeps, narrowed_seen, narrowed_sound, narrowed_touches, with_entries}
+use Rattle.genie_spaces.specs.Lemmas.Forbidding.{narrowed_keeps, narrowed_seen, narrowed_sound, narrowed_touches, with_entries}
 use Rattle.genie_spaces.proofs.Keeping.{keeps_bytes}
 use Rattle.genie_spaces.proofs.Numbering.{has_owned, others_none, same_region}
 
@@ -44,7 +44,7 @@ pub record MayProtect (k : Kernel) (p g : ℕ) : Type 0 where
   pub alive : spaces.is_alive p k.spaces ≡ true
   pub some : find (starts_at g) (spaces.regions_of p k.spaces) ≢ None
 
-none_some : {X : Type 0} (o : Option X) → is_some o ≡ true → o ≢ None
+pub none_some : {X : Type 0} (o : Option X) → is_some o ≡ true → o ≢ None
 none_some o e none = let no = ap is_some none in cc
 
 pub may_protect : (k : Kernel) (p g : ℕ) (w : Bool) → refuse (outline k) (Protect p g w) ≡ None → MayProtect k p g

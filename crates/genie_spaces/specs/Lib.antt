@@ -4,3 +4,8 @@ pub mod Permissions
 pub mod Marks
 pub mod Clearing
 pub mod RegionLaws
+pub mod ServingPaged
+pub mod Exiting
+pub mod ExitLaws
+pub mod Lemmas
+pub mod Forking

@@ -1,9 +1,13 @@
 //! The kernel's events on address spaces.
 #![tactic(auto)]
 
-mod laws;
+mod copies;
+pub mod exit;
+pub mod fork;
+pub mod laws;
 pub mod map;
-mod number;
+pub mod number;
 pub mod protect;
-mod room;
+pub mod room;
 pub mod spawn;
+pub mod unmap;

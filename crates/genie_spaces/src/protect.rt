@@ -28,8 +28,8 @@ fn forbid_each(objects: &mut Objects, object: ObjectId)
     }
 }
 
-// Takes the write permission from them where the object isn't to be written.
-fn guard(objects: &mut Objects, object: ObjectId, writable: bool)
+/// Takes the write permission from all entries of an object, where that isn't to be written.
+pub fn guard(objects: &mut Objects, object: ObjectId, writable: bool)
     requires { object_at objects.old object.0 ≢ [] }
     ensures { Guards object.0 writable objects.old objects.new }
 {

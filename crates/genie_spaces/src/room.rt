@@ -13,8 +13,8 @@ use genie_base::{Area, ObjectId, RegionId};
 use genie_kernel::Kernel;
 use genie_region::{Region, RegionState};
 
-// Drops the hidden regions of a process, where with them a further region would be one too many.
-pub(crate) fn make_room(kernel: &mut Kernel, pid: u32)
+/// Drops the hidden regions of a process, where with them a further region would be one too many.
+pub fn make_room(kernel: &mut Kernel, pid: u32)
     requires good { IsGood kernel.old }
     requires alive { IsTrue (is_alive pid kernel.old.spaces) }
     requires few { length (regions_of pid kernel.old.spaces) < 32 }

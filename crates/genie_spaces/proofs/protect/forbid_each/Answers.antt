@@ -1,5 +1,5 @@
 use Rattle.std.proofs.Common.{arith}
-use Rattle.genie_spaces.proofs.Forbidding.{forbids_none, forbids_more}
+use Rattle.genie_spaces.specs.Lemmas.Forbidding.{forbids_none, forbids_more}
 use Rattle.genie_spaces.proofs.protect.forbid_each.Goals as goal
 
 pub entries-init : goal.entries-init

@@ -1,0 +1,9 @@
+pub mod Loans
+pub mod Phases
+pub mod Served
+pub mod Applied
+pub mod Sent
+pub mod Filled
+pub mod GivenUp
+pub mod MovedOut
+pub mod Removed

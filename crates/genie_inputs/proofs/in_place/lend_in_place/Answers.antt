@@ -1,0 +1,19 @@
+use Rattle.genie_inputs.proofs.Lending.{can_wire, lend_failed, lends_pages, moved_within, object_there}
+use Rattle.genie_inputs.proofs.in_place.lend_in_place.Goals as goal
+
+pub in_place-lent-requires-clause-within : goal.in_place-lent-requires-clause-within
+in_place-lent-requires-clause-within g c = moved_within c.args.kernel.now c.make_free.new.kernel c.args.region c.args.off c.args.len (g.S.Store.view c.args.store.now) (g.S.Store.view c.make_free.new.store) c.requires.good c.make_free.ensures.moved c.requires.owned c.requires.within
+
+pub guard-requires : goal.guard-requires
+guard-requires g c = object_there c.args.kernel.now c.make_free.new.kernel c.in_place-lent.new.memory c.args.region (g.S.Store.view c.args.store.now) (g.S.Store.view c.make_free.new.store) c.make_free.ensures.moved c.requires.owned c.in_place-lent.ensures.keeps
+
+pub wire_plan-requires : goal.wire_plan-requires
+wire_plan-requires g c =
+    let w = can_wire c.args.kernel.now c.make_free.new.kernel.memory c.in_place-lent.new.memory c.args.region.object.0 c.args.off c.args.len _ _ c.in-Ok-lent.plan c.make_free.ensures.room c.in-Ok-lent.ensures.lent c.in-Ok-lent.ensures.lies in
+    record { there = w.there; room = w.room }
+
+pub returns-in-Err-lent-clause-moved : goal.returns-in-Err-lent-clause-moved
+returns-in-Err-lent-clause-moved g c = lend_failed c.memory_moves.ensures.calls c.moves_join.ensures.on c.args.kernel.now c.make_free.new.kernel c.in_place-lent.new.memory c.guard.new.objects c.args.region _ _ (g.S.Store.view c.args.store.now) (g.S.Store.view c.make_free.new.store) (g.S.Store.view c.in_place-lent.new.store) c.make_free.ensures.moved c.requires.owned c.in_place-lent.ensures.sound c.in_place-lent.ensures.sized c.in_place-lent.ensures.seen c.in_place-lent.ensures.keeps c.in_place-lent.ensures.touches c.in-Err-lent.ensures.counts c.guard.ensures
+
+pub returns-in-Ok-lent-clause-lends : goal.returns-in-Ok-lent-clause-lends
+returns-in-Ok-lent-clause-lends g c = lends_pages c.wires_show_what_was_seen.ensures.on c.args.kernel.now c.make_free.new.kernel c.in_place-lent.new.memory c.wire_plan.new.memory c.guard.new.objects c.args.region c.args.off c.args.len c.args.basic c.in-Ok-lent.plan (g.S.Store.view c.args.store.now) (g.S.Store.view c.make_free.new.store) (g.S.Store.view c.in_place-lent.new.store) c.make_free.ensures.moved c.in-Ok-lent.ensures.lent c.in-Ok-lent.ensures.lies c.guard.ensures c.wire_plan.ensures c.in_place-lent.ensures.sized c.in_place-lent.ensures.seen

@@ -1,0 +1,48 @@
+use Rattle.std.proofs.Common.{◌≡◌, ◌∙◌, ℕ, List, [], true, get_or, sym, ap, subst}
+use Rattle.std.specs.Prelude.{None, is_some, not}
+use Rattle.genie_hiding.specs.Queues.{is_in}
+use Rattle.genie_region.specs.Layouts.{region_of}
+use Rattle.genie_space.specs.Spaces.{AddressSpaces, is_alive, regions_of}
+use Rattle.genie_kernel.specs.declared.kernel.Kernel.{Kernel}
+use Rattle.genie_inputs.specs.Posting.{with_input}
+use Rattle.genie_inputs.proofs.Accepted.{may_input}
+use Rattle.genie_inputs.proofs.Answered.{fails}
+use Rattle.genie_inputs.proofs.Readied.{ready_moved}
+use Rattle.genie_inputs.proofs.Refilling.{process_low, refill_answers, refill_can_post, reused_found, reused_listed, reused_owned, reused_pages, weak_fits, weak_room, weak_within}
+use Rattle.genie_inputs.proofs.refill.refill.Goals as goal
+
+pub lend_in_place-requires-clause-owned : goal.lend_in_place-requires-clause-owned
+lend_in_place-requires-clause-owned g c = reused_owned c.args.kernel.now c.args.call c.args.region c.requires.reusable
+
+pub lend_in_place-requires-clause-fits : goal.lend_in_place-requires-clause-fits
+lend_in_place-requires-clause-fits g c = weak_fits c.args.kernel.now c.args.call c.requires.good c.requires.accepted
+
+pub lend_in_place-requires-clause-within : goal.lend_in_place-requires-clause-within
+lend_in_place-requires-clause-within g c = weak_within c.args.kernel.now c.args.call c.args.region c.requires.good (reused_owned c.args.kernel.now c.args.call c.args.region c.requires.reusable) (reused_pages c.args.kernel.now c.args.call c.args.region c.requires.reusable)
+
+pub lend_in_place-requires-clause-most : goal.lend_in_place-requires-clause-most
+lend_in_place-requires-clause-most g c = (weak_room c.input_laws.ensures.room c.args.kernel.now c.args.call c.requires.good c.requires.class c.requires.accepted).0
+
+pub lend_in_place-requires-clause-frames : goal.lend_in_place-requires-clause-frames
+lend_in_place-requires-clause-frames g c = (weak_room c.input_laws.ensures.room c.args.kernel.now c.args.call c.requires.good c.requires.class c.requires.accepted).1
+
+pub move_in-requires-clause-number : goal.move_in-requires-clause-number
+move_in-requires-clause-number g c = process_low c.args.kernel.now c.args.call.pid c.requires.good (may_input c.args.kernel.now c.args.call None c.requires.good c.requires.accepted).alive
+
+pub move_in-requires-clause-alive : goal.move_in-requires-clause-alive
+move_in-requires-clause-alive g c = subst (λ (s : AddressSpaces). is_alive c.args.call.pid s ≡ true) (sym (ap (λ (k : Kernel). k.spaces) c.in-Ok.ensures.lends.only)) (may_input c.args.kernel.now c.args.call None c.requires.good c.requires.accepted).alive
+
+pub move_in-requires-clause-there : goal.move_in-requires-clause-there
+move_in-requires-clause-there g c = subst (λ (s : AddressSpaces). is_some (region_of c.args.region.id (regions_of c.args.call.pid s)) ≡ true) (sym (ap (λ (k : Kernel). k.spaces) c.in-Ok.ensures.lends.only)) (reused_found c.args.kernel.now c.args.call c.args.region c.requires.reusable)
+
+pub move_in-requires-clause-listed : goal.move_in-requires-clause-listed
+move_in-requires-clause-listed g c = subst (λ (queues : List (List ℕ)). is_in c.args.region.id.0 (get_or queues c.args.call.pid []) ≡ true) (sym (ap (λ (k : Kernel). k.queues) c.in-Ok.ensures.lends.only)) (reused_listed c.args.kernel.now c.args.call c.args.region c.requires.reusable)
+
+pub post-requires-clause-room : goal.post-requires-clause-room
+post-requires-clause-room g c = refill_can_post c.input_laws.ensures c.args.kernel.now c.lend_in_place.new.kernel c.move_in.new.kernel c.args.call c.args.region _ c.in-Ok.loans (g.S.Store.view c.args.store.now) (g.S.Store.view c.lend_in_place.new.store) c.requires.good c.requires.accepted c.in-Ok.ensures.lends c.move_in.ensures c.transfer.result (ap (λ t. t.id.0) c.transfer.ensures)
+
+pub returns-in-Ok-clause-answered : goal.returns-in-Ok-clause-answered
+returns-in-Ok-clause-answered g c = refill_answers c.wires_show_what_was_seen.ensures.on c.input_laws.ensures c.region_laws.ensures c.args.kernel.now c.lend_in_place.new.kernel c.move_in.new.kernel c.post.new.kernel c.args.call c.args.region _ c.in-Ok.loans (g.S.Store.view c.args.store.now) (g.S.Store.view c.lend_in_place.new.store) c.requires.good c.requires.class (ap not c.emulated-basic.ensures) c.requires.accepted c.requires.reusable c.in-Ok.ensures.lends c.move_in.ensures (c.post.ensures ∙ ap (with_input c.move_in.new.kernel) c.transfer.ensures)
+
+pub returns-in-Err-clause-answered : goal.returns-in-Err-clause-answered
+returns-in-Err-clause-answered g c = fails c.input_laws.ensures c.args.kernel.now c.lend_in_place.new.kernel c.args.call None (g.S.Store.view c.args.store.now) (g.S.Store.view c.lend_in_place.new.store) c.requires.accepted (ready_moved c.args.kernel.now c.lend_in_place.new.kernel (g.S.Store.view c.args.store.now) (g.S.Store.view c.lend_in_place.new.store) c.in-Err.ensures.moved)

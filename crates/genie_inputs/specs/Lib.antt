@@ -1,0 +1,9 @@
+pub mod Buffers
+pub mod Calls
+pub mod InputLaws
+pub mod Places
+pub mod Placing
+pub mod Posting
+pub mod Ready
+pub mod Reusing
+pub mod Targets

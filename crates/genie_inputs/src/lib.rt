@@ -1,0 +1,18 @@
+//! The kernel's input calls: a transfer is posted for the datagrams of a device and a port.
+#![tactic(auto)]
+
+mod buffer;
+pub mod call;
+pub mod copy;
+pub mod fill;
+pub mod hold;
+mod in_place;
+mod laws;
+mod place;
+mod posting;
+pub mod refill;
+mod room;
+pub mod share;
+mod target;
+
+pub use crate::call::Call;
