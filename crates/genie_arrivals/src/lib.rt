@@ -6,7 +6,6 @@ mod clear;
 pub mod copy;
 mod fill;
 pub mod finish;
-pub mod gone;
 pub mod held;
 mod laws;
 mod live;

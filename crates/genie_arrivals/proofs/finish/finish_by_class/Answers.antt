@@ -1,6 +1,6 @@
 use Rattle.genie_arrivals.proofs.Closing.{alone_serves, paged_serves}
 use Rattle.genie_arrivals.proofs.Found.{found_some}
-use Rattle.genie_arrivals.proofs.finish.finish_input_early.Goals as goal
+use Rattle.genie_arrivals.proofs.finish.finish_by_class.Goals as goal
 
 pub class_at-requires : goal.class_at-requires
 class_at-requires g c = found_some c.args.kernel.now c.args.id.0 c.requires.accepted
