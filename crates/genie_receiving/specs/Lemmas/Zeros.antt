@@ -18,8 +18,8 @@ use Rattle.genie_kernel.specs.Orphans.{covers, is_orphan, lent_bytes, byte_under
 use Rattle.genie_kernel.specs.Regions.{owned_regions, object_bytes, region_view, process_view, processes_view}
 use Rattle.genie_kernel.specs.View.{state_of}
 use Rattle.genie_receiving.specs.Lemmas.Marking.{zeros_with}
-use Rattle.genie_receiving.proofs.Payloads.{ShowsLanded, seen_transfer}
-use Rattle.genie_receiving.proofs.Ready.{HasRange, span_covers}
+use Rattle.genie_receiving.specs.Lemmas.Payloads.{ShowsLanded, seen_transfer}
+use Rattle.genie_receiving.specs.Lemmas.Ready.{HasRange, span_covers}
 
 abbrev pub zeros : ℕ → List ℕ
 zeros n = replicate n 0
