@@ -1,12 +1,10 @@
 -- The frames of a strong input's own buffer carry its loans alone.
-use Rattle.std.proofs.Common.{◌≡◌, ◌≢◌, ℕ, ◌+◌, ◌<◌, ◌≤◌, zero, suc, Bool, true, false, not, cond, List, [], ◌∷◌, refl, sym, ap, ap₂, subst, arith, rules, ◌∙◌, length, map, get_or, ⊎_elim, inl, inr, eq-eqb}
-use Rattle.std.specs.Prelude.{Option, Some, None, All, find, filter, sum_by, count_by, ◌==◌, ◌&&◌, ◌||◌, if◌then◌else◌}
+use Rattle.std.proofs.Common.{◌≡◌, ℕ, ◌+◌, ◌<◌, ◌≤◌, zero, suc, Bool, true, false, not, cond, List, [], ◌∷◌, refl, sym, ap, subst, arith, rules, ◌∙◌, length, map, get_or, ⊎_elim, inl, inr, eq-eqb}
+use Rattle.std.specs.Prelude.{Option, Some, find, filter, sum_by, ◌==◌, ◌&&◌, ◌||◌, if◌then◌else◌}
 use Rattle.std.specs.List.{list_any}
-use Rattle.std.proofs.lemmas.Bool.{cases_Bool}
 use Rattle.std.proofs.lemmas.List.Sums.{sum_by-cons}
 use Rattle.genie_base.specs.Lemmas.Places.{num}
 use Rattle.genie_base.specs.Transfers.{is_emulated}
-use Rattle.genie_frame.specs.declared.frame.Counts.{Counts}
 use Rattle.genie_frame.specs.declared.frame.InLoan.{InLoan}
 use Rattle.genie_frame.specs.declared.frame.OutLoan.{OutLoan}
 use Rattle.genie_frame.specs.declared.frame.Owner.{Owner}
@@ -16,7 +14,7 @@ use Rattle.genie_input.specs.Buffers.{one_input, IsBuffer, AreBuffers}
 use Rattle.genie_input.specs.Pools.{PoolState}
 use Rattle.genie_plan.specs.Loans.{Loan, LoanKind, is_kind, loan_times, input_loan, input_loans, output_loan}
 use Rattle.genie_plan.specs.Loans as kind
-use Rattle.genie_plan.specs.Plans.{times, input_frames, AreApart}
+use Rattle.genie_plan.specs.Plans.{times, input_frames}
 use Rattle.genie_model.specs.Lemmas.Lists.{Has, has_at, has_any}
 use Rattle.genie_model.specs.Tables.{entry, without}
 use Rattle.genie_kernel.specs.declared.kernel.Kernel.{Kernel}
@@ -24,11 +22,11 @@ use Rattle.genie_kernel.specs.declared.transfer.Loans.{Loans}
 use Rattle.genie_kernel.specs.declared.transfer.Loans.TheVariants.{Nothing, Outward, Inward}
 use Rattle.genie_kernel.specs.declared.transfer.Transfer.{Transfer}
 use Rattle.genie_kernel.specs.Calls.{has_number, is_strong_call, number_of}
-use Rattle.genie_kernel.specs.Counted.{lent_of, loans_on, wires_on, is_wiring, pool_on}
+use Rattle.genie_kernel.specs.Counted.{loans_on, wires_on, is_wiring, pool_on}
 use Rattle.genie_kernel.specs.Good.{IsGood}
 use Rattle.genie_kernel.specs.Loans.{frames_of, loans_of, has_frame}
 use Rattle.genie_kernel.specs.Owners.{holders}
-use Rattle.genie_kernel.specs.Planned.{AreItsOwn, LendsIn}
+use Rattle.genie_kernel.specs.Planned.{AreItsOwn}
 use Rattle.genie_kernel.specs.Lemmas.Beside.{sum_beside}
 
 -- a frame that isn't among these isn't counted
@@ -109,7 +107,7 @@ first_number : (a b : ℕ) (xs : List ℕ) → a ∷ xs ≡ b ∷ [] → (a ≡ 
 first_number a b xs e = (cc, cc)
 
 -- where a frame is its alone, no other transfer has it
-others_unheld : (n f : ℕ) (ts : List Transfer) (t : Transfer) → find (has_number n) ts ≡ Some t → has_frame f t ≡ true → holders ts f ≡ n ∷ [] → (u : Transfer) → Has u (without (has_number n) ts) → has_frame f u ≡ false
+pub others_unheld : (n f : ℕ) (ts : List Transfer) (t : Transfer) → find (has_number n) ts ≡ Some t → has_frame f t ≡ true → holders ts f ≡ n ∷ [] → (u : Transfer) → Has u (without (has_number n) ts) → has_frame f u ≡ false
 others_unheld n f [] t found on is u h = absurd h
 others_unheld n f (x ∷ ts) t found on is u h = elim (has_number n x) as (λ b. has_number n x ≡ b → cond b (Some x) (find (has_number n) ts) ≡ Some t → Has u (cond b ts (x ∷ without (has_number n) ts)) → has_frame f u ≡ false) [
   | true ↦ λ e here i.
@@ -143,7 +141,7 @@ owned_there f j [] e = absurd (cc)
 owned_there zero j (x ∷ owners) e = omega arith
 owned_there (suc f) j (x ∷ owners) e = omega (arith, owned_there f j owners e)
 
-frame_there : (frames : List ℕ) (j : ℕ) → j < length frames → list_any (λ g. g == get_or frames j 0) frames ≡ true
+pub frame_there : (frames : List ℕ) (j : ℕ) → j < length frames → list_any (λ g. g == get_or frames j 0) frames ≡ true
 frame_there frames j l = has_any (λ g. g == get_or frames j 0) (get_or frames j 0) frames (has_at frames j 0 l) (eq-eqb (get_or frames j 0) (get_or frames j 0) refl)
 
 module _ (k : Kernel) (n : ℕ) (t : Transfer) (g : IsGood k) (found : find (has_number n) k.transfers ≡ Some t) (strong : is_strong_call t ≡ true) (loans : List InLoan) (is_loans : loans_of t.loans ≡ input_loans loans) (is_frames : frames_of t.loans ≡ input_frames loans) (own : AreItsOwn k.memory.frames.owners n (frames_of t.loans)) where

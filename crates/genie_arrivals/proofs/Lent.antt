@@ -1,12 +1,10 @@
 -- The loans and wires of a pending transfer are out.
-use Rattle.std.proofs.Common.{◌≡◌, ℕ, ◌+◌, ◌-◌, ◌≤◌, Bool, true, false, List, [], ◌∷◌, refl, sym, ap, subst, arith, ◌∙◌}
-use Rattle.std.specs.Prelude.{Option, Some, find, sum_by, if◌then◌else◌}
-use Rattle.genie_base.specs.declared.semantics.Direction.{Direction}
+use Rattle.std.proofs.Common.{◌≡◌, ℕ, ◌-◌, ◌≤◌, Bool, true, false, List, [], refl, sym, ap, subst, arith, ◌∙◌}
+use Rattle.std.specs.Prelude.{Some, find, sum_by, if◌then◌else◌}
 use Rattle.genie_base.specs.declared.semantics.Direction.TheVariants as direction
 use Rattle.genie_frame.specs.declared.frame.Counts.{Counts}
 use Rattle.genie_frame.specs.declared.frame.Owner.{Owner}
 use Rattle.genie_frame.specs.FrameTable.{FrameTable, counts_at}
-use Rattle.genie_input.specs.Pools.{PoolState}
 use Rattle.genie_plan.specs.Loans.{Loan, LoanKind, AreOut, Ended, amount, loan_times}
 use Rattle.genie_plan.specs.Loans as kind
 use Rattle.genie_plan.specs.Plans.{times}
@@ -18,7 +16,7 @@ use Rattle.genie_kernel.specs.declared.transfer.Loans.{Loans}
 use Rattle.genie_kernel.specs.declared.transfer.Loans.TheVariants.{Nothing, Outward, Inward}
 use Rattle.genie_kernel.specs.declared.transfer.Transfer.{Transfer}
 use Rattle.genie_kernel.specs.Calls.{has_number, is_strong_call}
-use Rattle.genie_kernel.specs.Counted.{AreCounted, is_wiring, lent_of, loans_on, wires_on}
+use Rattle.genie_kernel.specs.Counted.{is_wiring, lent_of, loans_on, wires_on}
 use Rattle.genie_kernel.specs.Good.{IsGood}
 use Rattle.genie_kernel.specs.Loans.{frames_of, loans_of}
 use Rattle.genie_kernel.specs.Planned.{Lends, LendsIn, LendsInput, LendsStrongly, is_early_device}

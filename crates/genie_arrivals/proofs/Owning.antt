@@ -1,10 +1,10 @@
 -- Which process has a region.
 use Rattle.std.proofs.Common.{◌≡◌, ◌≢◌, ℕ, ◌+◌, ◌<◌, zero, suc, Bool, true, false, List, [], ◌∷◌, refl, sym, ap, ap₂, subst, arith, ◌∙◌, length, ⊎_elim}
-use Rattle.std.specs.Prelude.{Option, Some, None, ◌||◌}
+use Rattle.std.specs.Prelude.{Option, Some, ◌||◌}
 use Rattle.std.specs.List.{list_any}
 use Rattle.std.proofs.lemmas.Bool.{cases_eq}
 use Rattle.genie_region.specs.declared.region.Region.{Region}
-use Rattle.genie_model.specs.Lemmas.Lists.{any_append, find_has, has_any}
+use Rattle.genie_model.specs.Lemmas.Lists.{Has, any_append, find_has, has_any, has_left, has_right}
 use Rattle.genie_model.specs.Tables.{entry}
 use Rattle.genie_space.specs.Spaces.{AddressSpaces}
 use Rattle.genie_kernel.specs.declared.transfer.Transfer.{Transfer}
@@ -35,3 +35,14 @@ pub named_there : (spaces : AddressSpaces) (t : Transfer) (o : OwnedRegion) → 
 named_there spaces t o h =
     let found = find_has (has_id h.number) (regions_of (entry spaces.processes o.pid)) o.region h.owner.found in
     ap (is_owned_number (owned_regions spaces.processes)) h.names ∙ owned_in h.number spaces.processes o.pid (has_any (has_id h.number) o.region (regions_of (entry spaces.processes o.pid)) found.0 found.1)
+
+-- a region of a process is one of all
+pub has_owned : (r : Region) (ps : List (Option (List Region))) (p : ℕ) (rs : List Region) → entry ps p ≡ Some rs → Has r rs → Has r (owned_regions ps)
+has_owned r [] p rs e h = absurd (cc)
+has_owned r (x ∷ ps) zero rs e h = has_left r (regions_of x) (owned_regions ps) (subst (λ (o : Option (List Region)). Has r (regions_of o)) (sym e) h)
+has_owned r (x ∷ ps) (suc p) rs e h = has_right r (regions_of x) (owned_regions ps) (has_owned r ps p rs e h)
+
+pub had_owned : (r : Region) (ps : List (Option (List Region))) (p : ℕ) → Has r (regions_of (entry ps p)) → Has r (owned_regions ps)
+had_owned r [] p h = absurd h
+had_owned r (x ∷ ps) zero h = has_left r (regions_of x) (owned_regions ps) h
+had_owned r (x ∷ ps) (suc p) h = has_right r (regions_of x) (owned_regions ps) (had_owned r ps p h)

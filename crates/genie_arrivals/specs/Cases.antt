@@ -19,3 +19,11 @@ pub record IsInputOf (class : Class) (devices : List (Option DeviceView)) (t : T
 -- the pending transfer of this number is one
 abbrev pub IsEarlyInput : Class → Kernel → ℕ → Type 0
 IsEarlyInput class k n = IfSome (find (has_number n) k.transfers) (IsInputOf class k.devices)
+
+-- an input on an early device, of whatever class
+pub record IsAnyInput (devices : List (Option DeviceView)) (t : Transfer) : Type 0 where
+  pub inward : t.dir ≡ Inward
+  pub early : is_early_device (entry devices t.dev) ≡ true
+
+abbrev pub IsOnEarly : Kernel → ℕ → Type 0
+IsOnEarly k n = IfSome (find (has_number n) k.transfers) (IsAnyInput k.devices)

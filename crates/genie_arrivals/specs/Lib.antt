@@ -4,3 +4,12 @@ pub mod Cases
 pub mod Backing
 pub mod Ends
 pub mod EndLaws
+pub mod Live
+pub mod Targets
+pub mod CopyLaws
+pub mod Stored
+pub mod SwapLaws
+pub mod Failing
+pub mod Clearing
+pub mod Paging
+pub mod Waiting

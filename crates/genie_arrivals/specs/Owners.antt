@@ -1,5 +1,5 @@
 -- Which process has the region that a transfer names.
-use Rattle.std.specs.Prelude.{◌≡◌, ℕ, true, find, Option, Some}
+use Rattle.std.specs.Prelude.{◌≡◌, ℕ, true, find, Some}
 use Rattle.genie_space.specs.Spaces.{AddressSpaces, is_alive, regions_of}
 use Rattle.genie_kernel.specs.declared.transfer.Transfer.{Transfer}
 use Rattle.genie_kernel.specs.Calls.{region_number}

@@ -2,6 +2,20 @@
 #![tactic(auto)]
 
 mod back;
+mod clear;
+pub mod copy;
+mod fill;
+pub mod finish;
+pub mod held;
 mod laws;
+mod live;
 mod owned;
+mod release;
+mod room;
 pub mod share;
+mod store;
+mod target;
+pub mod waiting;
+pub mod weak_move;
+
+pub use crate::finish::finish_input_early;

@@ -1,5 +1,5 @@
 -- Frames with pages that aren't hidden.
-use Rattle.std.proofs.Common.{◌≡◌, ℕ, ◌≤◌, ◌+◌, ◌<◌, true, false, List, [], ◌∷◌, arith, ap, length, get_or, suc, refl, sym, ◌∙◌}
+use Rattle.std.proofs.Common.{◌≡◌, ℕ, ◌≤◌, ◌+◌, ◌<◌, Bool, true, false, List, [], ◌∷◌, arith, ap, length, get_or, suc, refl, sym, ◌∙◌}
 use Rattle.std.specs.Prelude.{count_by}
 use Rattle.std.proofs.lemmas.List.Sums.{sum_by-cons}
 use Rattle.genie_base.specs.Lemmas.Places.{num}
@@ -15,19 +15,23 @@ use Rattle.genie_cases.specs.Benches.{IsIdle}
 use Rattle.genie_object.specs.declared.objects.Entry.{Entry}
 use Rattle.genie_hiding.specs.Hidden.{is_visible}
 
-here : (objects : List (List Entry)) (o : Owner) → num (is_visible objects [] o) + num (is_free o) ≤ 1
-here objects Free = omega arith
-here objects (Page p) = omega arith
-here objects (System t) = omega arith
-here objects (Pool d) = omega arith
-here objects Nobody = omega arith
+at_most : (b : Bool) → num b + 0 ≤ 1
+at_most true = omega arith
+at_most false = omega arith
+
+here : (objects : List (List Entry)) (hidden : List ℕ) (o : Owner) → num (is_visible objects hidden o) + num (is_free o) ≤ 1
+here objects hidden Free = omega arith
+here objects hidden (Page p) = at_most (is_visible objects hidden (Page p))
+here objects hidden (System t) = omega arith
+here objects hidden (Pool d) = omega arith
+here objects hidden Nobody = omega arith
 
 -- a frame that is free has no page
-pub visible_taken : (objects : List (List Entry)) (owners : List Owner) → count_by (is_visible objects []) owners + count_by is_free owners ≤ length owners
-visible_taken objects [] = omega arith
-visible_taken objects (o ∷ owners) =
-    let rest = visible_taken objects owners in
-    omega (arith, rest, here objects o, sum_by-cons (λ x. num (is_visible objects [] x)) o owners, sum_by-cons (λ x. num (is_free x)) o owners)
+pub visible_taken : (objects : List (List Entry)) (hidden : List ℕ) (owners : List Owner) → count_by (is_visible objects hidden) owners + count_by is_free owners ≤ length owners
+visible_taken objects hidden [] = omega arith
+visible_taken objects hidden (o ∷ owners) =
+    let rest = visible_taken objects hidden owners in
+    omega (arith, rest, here objects hidden o, sum_by-cons (λ x. num (is_visible objects hidden x)) o owners, sum_by-cons (λ x. num (is_free x)) o owners)
 
 can_be_had : (o : Owner) (c : Counts) → Agree o c → c ≡ no_counts → system_owner o ≡ Free → is_available o c ≡ true
 can_be_had Free c a e s = ap (λ x. is_available Free x) e

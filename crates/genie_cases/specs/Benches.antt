@@ -29,3 +29,16 @@ pub record IsWell (m : Memory) (v : StoreView) (object entries pages most : ℕ)
 pub record IsIdle (m : Memory) : Type 0 where
   pub unlent : (f : ℕ) → counts_at m.frames f ≡ no_counts
   pub systems : (f : ℕ) → system_owner (owner_at m.frames f) ≡ Free
+
+-- the objects keep their sizes
+abbrev pub KeepsSizes : Memory → Memory → Type 0
+KeepsSizes old new = (o : ℕ) → length (object_at new.objects o) ≡ length (object_at old.objects o)
+
+-- at most the entries have changed, and how many share each page
+pub record OnlyShares (old new : Memory) : Type 0 where
+  pub sound : IsSound new
+  pub frames : new.frames ≡ old.frames
+  pub slots : new.slots ≡ old.slots
+  pub most : new.pages.most ≡ old.pages.most
+  pub pages : count_by is_there new.pages.pages ≤ count_by is_there old.pages.pages
+  pub sizes : KeepsSizes old new

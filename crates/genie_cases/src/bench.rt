@@ -1,15 +1,19 @@
 //! A memory of which a case is made.
-ghost use Rattle.std.specs.Prelude.{◌≡◌, ◌-◌, ◌^◌, ◌≤◌, ◌<◌, [], true, count_by, not, IfOk, OnOk};
+ghost use Rattle.std.specs.Prelude.{◌≡◌, ℕ, ◌-◌, ◌^◌, ◌≤◌, ◌<◌, List, [], true, length, count_by, not, IfOk, OnOk};
 ghost use Rattle.genie_object.specs.Costs.{AreBelow};
+ghost use Rattle.genie_object.specs.Objects.{object_at, is_absent};
+ghost use Rattle.genie_object.specs.Pages.{page_at};
+ghost use Rattle.genie_object.specs.Sound.{IsSound, FitsHidden};
+ghost use Rattle.genie_object.specs.Steps.{CanShare, shared};
 ghost use Rattle.genie_hiding.specs.Hidden.{objects_of};
 ghost use Rattle.genie_hiding.specs.Rooms.{visible_pages};
-ghost use Rattle.genie_cases.specs.Benches.{IsFit, IsWell, IsIdle};
+ghost use Rattle.genie_cases.specs.Benches.{IsFit, IsWell, IsIdle, KeepsSizes, OnlyShares};
 ghost use Rattle.genie_plan.specs.Plans.{CanSend};
 
 use genie_base::{ObjectId, TransferId};
 use genie_fault::{resolve_read, resolve_write};
 use genie_hiding::HiddenCache;
-use genie_object::{EntryRef, Memory, Place, Range};
+use genie_object::{Entry, EntryRef, Memory, PageId, Place, Range};
 use genie_pageout::{Clock, make_room, pageout};
 use genie_plan::{OutPlan, page_count};
 use genie_store::Store;
@@ -57,6 +61,8 @@ pub fn blank<S: Store + Drop>(
     requires entries { (1 ≤ entries) × (entries ≤ 64) }
     ensures well { IfOk result (λ b. IsWell b.memory (S.view b.store) b.object.0 b.entries b.pages b.most) }
     ensures idle { IfOk result (λ b. IsIdle b.memory) }
+    ensures some { IfOk result (λ b. 1 ≤ b.entries) }
+    ensures objects { IfOk result (λ b. count_by (λ o. not (is_absent o)) b.memory.objects < 512) }
 {
     let Ok(mut memory) = Memory::new(alloc, frames, 16, slots) else {
         return Err(Trouble::Memory);
@@ -92,11 +98,25 @@ pub fn is_young(memory: &Memory) -> bool
 }
 
 impl<S: Store> Bench<S> {
+    /// Makes another object, of one page.
+    pub fn make_other(&mut self) -> ObjectId
+        requires well { IsWell self.old.memory (S.view self.old.store) self.old.object.0 self.old.entries self.old.pages self.old.most }
+        requires idle { IsIdle self.old.memory }
+        requires some { 1 ≤ self.old.entries }
+        requires objects { count_by (λ o. not (is_absent o)) self.old.memory.objects < 512 }
+        ensures well { IsWell self.new.memory (S.view self.new.store) self.new.object.0 self.new.entries self.new.pages self.new.most }
+        ensures idle { IsIdle self.new.memory }
+        ensures other { length (object_at self.new.memory.objects result.0) ≡ 1 }
+    {
+        self.memory.make_object(1)
+    }
+
     /// Writes a page of one byte's value, as a process does.
     pub fn write(&mut self, index: u32, byte: u8) -> Result<(), Trouble>
         requires well { IsWell self.old.memory (S.view self.old.store) self.old.object.0 self.old.entries self.old.pages self.old.most }
         ensures well { IsWell self.new.memory (S.view self.new.store) self.new.object.0 self.new.entries self.new.pages self.new.most }
         ensures idle { IsIdle self.old.memory → IsIdle self.new.memory }
+        ensures sizes { KeepsSizes self.old.memory self.new.memory }
         ensures counts { self.new.memory.frames.counts ≡ self.old.memory.frames.counts }
     {
         if index >= self.entries || self.pages >= self.most {
@@ -156,6 +176,7 @@ impl<S: Store> Bench<S> {
         requires none { hidden.old ≡ [] }
         ensures well { IsWell self.new.memory (S.view self.new.store) self.new.object.0 self.new.entries self.new.pages self.new.most }
         ensures idle { IsIdle self.old.memory → IsIdle self.new.memory }
+        ensures sizes { KeepsSizes self.old.memory self.new.memory }
         ensures none { hidden.new ≡ [] }
     {
         if k > self.memory.frames.len() {
@@ -179,12 +200,12 @@ impl<S: Store> Bench<S> {
         }
     }
 
-    /// Puts pages to the store, where no region is hidden. Answers how many went.
+    /// Puts pages to the store. Answers how many went.
     pub fn put_out(&mut self, hidden: &mut HiddenCache, n: u32) -> Result<u32, Trouble>
         requires well { IsWell self.old.memory (S.view self.old.store) self.old.object.0 self.old.entries self.old.pages self.old.most }
-        requires none { hidden.old ≡ [] }
+        requires fits { FitsHidden self.old.memory (objects_of hidden.old) }
         ensures well { IsWell self.new.memory (S.view self.new.store) self.new.object.0 self.new.entries self.new.pages self.new.most }
-        ensures none { hidden.new ≡ [] }
+        ensures fits { FitsHidden self.new.memory (objects_of hidden.new) }
     {
         if !has_slots(&self.memory) || !is_young(&self.memory) {
             return Err(Trouble::Limits);
@@ -207,6 +228,8 @@ impl<S: Store> Bench<S> {
         requires idle { IsIdle self.old.memory }
         ensures fit { IsFit self.new.memory (S.view self.new.store) self.new.object.0 self.new.entries }
         ensures well { OnOk result (IsWell self.new.memory (S.view self.new.store) self.new.object.0 self.new.entries self.new.pages self.new.most) }
+        ensures sizes { KeepsSizes self.old.memory self.new.memory }
+        ensures object { self.new.object ≡ self.old.object }
         ensures ready { IfOk result (λ plan. CanSend self.new.memory.frames plan.loans.items plan.first plan.len) }
     {
         if off > 1024 || len > 1024 || !is_young(&self.memory) {
@@ -237,6 +260,31 @@ impl<S: Store> Bench<S> {
         match prepared {
             Ok(plan) => Ok(plan),
             Err(_) => Err(Trouble::Store),
+        }
+    }
+
+    /// An empty entry comes to share the page of another one.
+    pub fn share(&mut self, from: u32, to: u32) -> Result<(), Trouble>
+        requires well { IsWell self.old.memory (S.view self.old.store) self.old.object.0 self.old.entries self.old.pages self.old.most }
+        requires idle { IsIdle self.old.memory }
+        ensures well { IsWell self.new.memory (S.view self.new.store) self.new.object.0 self.new.entries self.new.pages self.new.most }
+        ensures idle { IsIdle self.new.memory }
+    {
+        if from >= self.entries || to >= self.entries {
+            return Err(Trouble::Limits);
+        }
+        let from = EntryRef {
+            object: self.object,
+            index: from,
+        };
+        let to = EntryRef {
+            object: self.object,
+            index: to,
+        };
+        if share_page(&mut self.memory, from, to) {
+            Ok(())
+        } else {
+            Err(Trouble::Limits)
         }
     }
 
@@ -272,11 +320,51 @@ impl<S: Store> Bench<S> {
 
 // Whether there is a free slot for each frame that isn't free.
 fn has_slots(memory: &Memory) -> bool
-    ensures { result ≡ true → visible_pages memory.now [] ≤ count_by not memory.now.slots }
+    ensures { result ≡ true → (hidden : List ℕ) → visible_pages memory.now hidden ≤ count_by not memory.now.slots }
 {
     let taken = memory.frames.len() - memory.frames.free();
     if taken > memory.slots.free() {
         return false;
     }
+    true
+}
+
+// An empty entry comes to name the page, which nobody may write.
+fn name_page(memory: &mut Memory, at: EntryRef, page: PageId)
+    requires can { CanShare memory.old at.object.0 at.index page.0 }
+    requires few { (page_at memory.old.pages.pages page.0).shares < 2 ^ 32 - 1 }
+    ensures { memory.new ≡ shared memory.old at.object.0 at.index page.0 }
+{
+    memory.pages.share(page);
+    memory.objects.replace(
+        at,
+        Entry {
+            page: Some(page),
+            readable: false,
+            writable: false,
+        },
+    );
+}
+
+/// An empty entry comes to share the page of another one, as fork has it, and neither may be written then. Answers whether
+/// it did: not where the other one is empty too, or this one isn't.
+pub fn share_page(memory: &mut Memory, from: EntryRef, to: EntryRef) -> bool
+    requires sound { IsSound memory.old }
+    requires idle { IsIdle memory.old }
+    requires from { from.index < length (object_at memory.old.objects from.object.0) }
+    requires to { to.index < length (object_at memory.old.objects to.object.0) }
+    ensures { OnlyShares memory.old memory.new }
+{
+    let Some(page) = memory.objects.entry(from).page else {
+        return false;
+    };
+    let None = memory.objects.entry(to).page else {
+        return false;
+    };
+    if memory.pages.shares(page) > 3 {
+        return false;
+    }
+    memory.objects.forbid_writing(from);
+    name_page(memory, to, page);
     true
 }

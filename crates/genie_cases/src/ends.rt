@@ -3,15 +3,16 @@ ghost use Rattle.std.specs.Prelude.{◌≡◌, ℕ, OnOk, IfOk};
 ghost use Rattle.genie_plan.specs.Plans.{input_frames};
 ghost use Rattle.genie_input.specs.Buffers.{AreBuffers};
 ghost use Rattle.genie_finish.specs.Ranges.{CanStoreRange};
-ghost use Rattle.genie_cases.specs.Benches.{IsFit, IsWell, IsIdle};
+ghost use Rattle.genie_cases.specs.Benches.{IsFit, IsWell, IsIdle, KeepsSizes};
 
 use crate::bench::{Bench, Trouble, blank, is_young};
 use genie_base::TransferId;
-use genie_finish::{ready_range, store_range};
+use genie_fault::resolve_write;
+use genie_finish::{copy_range, ready_range, store_range};
 use genie_frame::InLoan;
 use genie_input::aligned_buffer;
 use genie_input::laws::buffers_stay;
-use genie_object::Range;
+use genie_object::{EntryRef, Range};
 use genie_plan::{InPlan, page_count};
 use genie_store::{MemoryStore, Store};
 
@@ -45,6 +46,7 @@ const AFTER: [[u8; 16]; 3] = [
 pub fn lend_buffer<S: Store>(bench: &mut Bench<S>) -> Result<InPlan, Trouble>
     requires well { IsWell bench.old.memory (S.view bench.old.store) bench.old.object.0 bench.old.entries bench.old.pages bench.old.most }
     ensures well { OnOk result (IsWell bench.new.memory (S.view bench.new.store) bench.new.object.0 bench.new.entries bench.new.pages bench.new.most) }
+    ensures sizes { KeepsSizes bench.old.memory bench.new.memory }
     ensures buffers { IfOk result (λ plan. AreBuffers bench.new.memory.frames (input_frames plan.loans.items)) }
 {
     let page = bench.memory.frames.page();
@@ -203,4 +205,59 @@ fn a_page_of_three_is_held(rt: HostRuntime) {
         let mut pages = blank(rt.alloc(), store, 10, 8, 3).expect(&rt, "memory");
         assert_eq!(rt; ends(&mut pages, held, few, copied), Ok(true));
     }
+}
+
+// Copies eight bytes of the buffer, from place 12 of its first frame on, to place 5 of the first page.
+fn copy_eight<S: Store>(bench: &mut Bench<S>, loans: &[InLoan]) -> Result<(), Trouble>
+    requires well { IsWell bench.old.memory (S.view bench.old.store) bench.old.object.0 bench.old.entries bench.old.pages bench.old.most }
+    requires buffers { AreBuffers bench.old.memory.frames (input_frames loans.now) }
+    ensures fit { OnOk result (IsFit bench.new.memory (S.view bench.new.store) bench.new.object.0 bench.new.entries) }
+{
+    if bench.entries == 0 || bench.pages >= bench.most || loans.len() < 2 {
+        return Err(Trouble::Limits);
+    }
+    if bench.memory.frames.free() == 0 || !is_young(&bench.memory) {
+        return Err(Trouble::Limits);
+    }
+    let at = EntryRef {
+        object: bench.object,
+        index: 0,
+    };
+    let Ok(_) = resolve_write(&mut bench.memory, &mut bench.store, at) else {
+        return Err(Trouble::Store);
+    };
+    if !is_young(&bench.memory) {
+        return Err(Trouble::Limits);
+    }
+    buffers_stay();
+    let range = Range {
+        object: bench.object,
+        off: 5,
+        len: 8,
+    };
+    copy_range(&mut bench.memory, loans, 12, &range);
+    Ok(())
+}
+
+// Copies a part of the buffer over a page, and answers the page and how many bytes were copied.
+fn copies<S: Store>(bench: &mut Bench<S>) -> Result<([u8; 16], u64), Trouble>
+    requires well { IsWell bench.old.memory (S.view bench.old.store) bench.old.object.0 bench.old.entries bench.old.pages bench.old.most }
+{
+    bench.write(0, 1)?;
+    let plan = lend_buffer(bench)?;
+    fill(bench, plan.loans.as_slice(), 0)?;
+    copy_eight(bench, plan.loans.as_slice())?;
+    let copied = bench.memory.frames.meters().copied;
+    Ok((bench.peek(0)?, copied))
+}
+
+// The bytes are those of two frames of the buffer.
+#[test]
+fn bytes_are_copied_wherever_they_lie(rt: HostRuntime) {
+    let store = MemoryStore::new(rt.alloc());
+    let mut pages = blank(rt.alloc(), store, 10, 8, 3).expect(&rt, "memory");
+    let want = [
+        1, 1, 1, 1, 1, 112, 113, 114, 115, 116, 117, 118, 119, 1, 1, 1,
+    ];
+    assert_eq!(rt; copies(&mut pages), Ok((want, 8)));
 }

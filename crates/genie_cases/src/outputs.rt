@@ -1,4 +1,4 @@
-//! Output of three pages: one untouched, one in a slot, one in a frame.
+//! Output of three pages: one untouched, one in a slot, one in a frame that another entry shares.
 ghost use Rattle.std.specs.Prelude.{◌≡◌, ◌<◌, ◌≤◌, []};
 ghost use Rattle.genie_plan.specs.Plans.{CanSend};
 ghost use Rattle.genie_cases.specs.Benches.{IsFit, IsWell, IsIdle};
@@ -16,7 +16,7 @@ const BEFORE: [u8; 40] = [
     9, 9, 9, 9, 9, 9, 9, 9,
 ];
 
-// Leaves page 0 untouched, page 1 in a slot and page 2 in a frame.
+// Leaves page 0 untouched, page 1 in a slot, and page 2 in a frame, shared by the fourth entry.
 fn make_pages<S: Store>(bench: &mut Bench<S>, hidden: &mut HiddenCache) -> Result<(), Trouble>
     requires well { IsWell bench.old.memory (S.view bench.old.store) bench.old.object.0 bench.old.entries bench.old.pages bench.old.most }
     requires idle { IsIdle bench.old.memory }
@@ -27,7 +27,8 @@ fn make_pages<S: Store>(bench: &mut Bench<S>, hidden: &mut HiddenCache) -> Resul
 {
     bench.write(1, 7)?;
     bench.make_room(hidden, 8)?;
-    bench.write(2, 9)
+    bench.write(2, 9)?;
+    bench.share(2, 3)
 }
 
 // Whether the device sends these bytes, from a place on.
@@ -90,7 +91,8 @@ fn is_unlent(frames: &Frames, f: u32) -> bool {
     frames.counts(FrameId(f)) == none && is_unlent(frames, f + 1)
 }
 
-// Lends the range, writes to its pages, and tells whether the device sends these bytes and the process sees its own.
+// Lends the range, writes to its pages, and tells whether the device sends these bytes, the process sees its own, and the
+// fourth entry what it shared.
 fn sends_while_written<S: Store>(
     bench: &mut Bench<S>,
     hidden: &mut HiddenCache,
@@ -107,7 +109,7 @@ fn sends_while_written<S: Store>(
         return Ok(false);
     }
     write_ones(bench)?;
-    if !shows(bench, 1, 1, 1)? {
+    if !shows(bench, 1, 1, 1)? || bench.read(3)? != [9; 16] {
         return Ok(false);
     }
     Ok(sends(&bench.memory.frames, &plan, want, 0))
@@ -116,7 +118,7 @@ fn sends_while_written<S: Store>(
 #[test]
 fn strong_output_sends_what_was_lent(rt: HostRuntime) {
     let store = MemoryStore::new(rt.alloc());
-    let mut pages = blank(rt.alloc(), store, 8, 8, 3).expect(&rt, "memory");
+    let mut pages = blank(rt.alloc(), store, 8, 8, 4).expect(&rt, "memory");
     let mut hidden = HiddenCache::new(rt.alloc()).expect(&rt, "memory");
     assert_eq!(rt;
         sends_while_written(&mut pages, &mut hidden, true, &BEFORE),
@@ -127,7 +129,7 @@ fn strong_output_sends_what_was_lent(rt: HostRuntime) {
 #[test]
 fn weak_output_sends_what_is_there(rt: HostRuntime) {
     let store = MemoryStore::new(rt.alloc());
-    let mut pages = blank(rt.alloc(), store, 8, 8, 3).expect(&rt, "memory");
+    let mut pages = blank(rt.alloc(), store, 8, 8, 4).expect(&rt, "memory");
     let mut hidden = HiddenCache::new(rt.alloc()).expect(&rt, "memory");
     assert_eq!(rt;
         sends_while_written(&mut pages, &mut hidden, false, &[1; 40]),

@@ -45,6 +45,7 @@ use Rattle.genie_kernel.specs.Lemmas.Owning.{owned_less}
 use Rattle.genie_kernel.specs.Lemmas.Staying.{weak_there}
 use Rattle.genie_changes.specs.Ending.{EndsBuffer, EndsLoans, IsGivenBack, LeavesOthers, LendsSoundly, ShowsOthers, bare_device, bare_pool, without_call}
 use Rattle.genie_changes.specs.Premises.{ShowsPages}
+use Rattle.genie_changes.specs.Released.{EndsOver}
 use Rattle.genie_changes.specs.Settled.{IsSettled}
 use Rattle.genie_changes.proofs.GivenBack.{differs, has_less, held_by_weak, in_frames}
 use Rattle.genie_changes.proofs.Lists.{all_less}
@@ -116,26 +117,12 @@ fits_bare v w len e h = unbared v (subst (FitsDevice len) (sym e) (bared w h)) w
   unbared None h = h
   unbared (Some v) h = h
 
-module _ (k : Kernel) (m : Memory) (n : ℕ) (t : Transfer) (posted : List Input) (devices : List (Option DeviceView)) (pools : List (Option PoolState)) (s : IsSettled k) (found : find (has_number n) k.transfers ≡ Some t) (unqueued : is_queued t.phase ≡ false) (unmoved : is_moving t.phase ≡ false) (ends : EndsLoans k n t m) (frees : EndsBuffer k t devices pools) (listed : ArePosted posted (without (has_number n) k.transfers)) where
+module _ (k : Kernel) (m : Memory) (n : ℕ) (t : Transfer) (posted : List Input) (devices : List (Option DeviceView)) (pools : List (Option PoolState)) (s : IsSettled k) (found : find (has_number n) k.transfers ≡ Some t) (unqueued : is_queued t.phase ≡ false) (unmoved : is_moving t.phase ≡ false) (ends : EndsOver k n t m devices pools) (listed : ArePosted posted (without (has_number n) k.transfers)) where
   abbrev us : List Transfer
   us = without (has_number n) k.transfers
 
   device_same : (d : ℕ) → bare_device (entry devices d) ≡ bare_device (entry k.devices d)
-  device_same d = sym (entry_map bare_device refl devices d) ∙ ap (λ l. entry l d) frees.same_devices ∙ entry_map bare_device refl k.devices d
-
-  pool_same : (f d : ℕ) → pool_on f (entry pools d) ≡ pool_on f (entry k.pools d)
-  pool_same f d = sym (pool_bare f (entry pools d)) ∙ ap (pool_on f) (sym (entry_map bare_pool refl pools d) ∙ ap (λ l. entry l d) frees.same_pools ∙ entry_map bare_pool refl k.pools d) ∙ pool_bare f (entry k.pools d)
-
-  counted_before : AreCounted m.frames.counts us k.pools
-  counted_before = counts_shrink (has_number n) t k.transfers k.pools k.memory.frames.counts m.frames.counts found ends.counts s.counted
-
-  counted : AreCounted m.frames.counts us pools
-  counted f =
-      let same : sum_by (pool_on f) k.pools ≡ sum_by (pool_on f) pools = sym (sum_bare f k.pools) ∙ ap (sum_by (pool_on f)) (sym frees.same_pools) ∙ sum_bare f pools in
-      counted_before f ∙ (λ i. record (lent_of us k.pools f) { input = sum_by (loans_on kind.Input f) us + same i })
-
-  owned_before : AreOwned m.frames.owners us k.pools
-  owned_before = owned_less n t k.transfers k.pools k.memory.frames.owners m.frames.owners found ends.owners s.owners
+  device_same d = sym (entry_map bare_device refl devices d) ∙ ap (λ l. entry l d) ends.same_devices ∙ entry_map bare_device refl k.devices d
 
   planned_before : ArePlanned k.config.page m.frames.owners k.devices us
   planned_before = planned_stay k.config.page k.memory.frames.owners m.frames.owners k.devices us ends.own (planned_less k.config.page k.memory.frames.owners k.devices (has_number n) k.transfers s.planned)
@@ -144,15 +131,15 @@ module _ (k : Kernel) (m : Memory) (n : ℕ) (t : Transfer) (posted : List Input
   held_frames i d l j lj =
       let u : Transfer = get_or (weak_transfers us) i d in
       let there = weak_there us u (has_at (weak_transfers us) i d l) in
-      held_by_weak k.config.page m.frames.owners m.frames.counts k.devices us k.pools counted_before planned_before u (get_or (frames_of u.loans) j 0) there.0 (let w = there.1 in grind (arith, rules, w)) (in_frames (frames_of u.loans) j 0 lj)
+      held_by_weak k.config.page m.frames.owners m.frames.counts k.devices us pools ends.counted planned_before u (get_or (frames_of u.loans) j 0) there.0 (let w = there.1 in grind (arith, rules, w)) (in_frames (frames_of u.loans) j 0 lj)
 
-  pub transfer_ends : IsSettled (record k { memory = m; transfers = without (has_number n) k.transfers; posted = posted; devices = devices; pools = pools })
-  transfer_ends = record {
+  pub transfer_ends_over : IsSettled (record k { memory = m; transfers = without (has_number n) k.transfers; posted = posted; devices = devices; pools = pools })
+  transfer_ends_over = record {
     fits = s.fits;
     has_bytes = s.has_bytes;
     sized = ends.sized;
     spaced = s.spaced;
-    equipped = frees.equipped;
+    equipped = ends.equipped;
     numbered = s.numbered;
     listed = s.listed;
     ranges = all_less (λ (u : Transfer). (r : Region) → find (has_id r.id.0) (owned_regions k.spaces.processes) ≡ Some r → names_weakly r.id.0 u ≡ true → u.offset + u.len ≤ r.pages * k.config.page) (has_number n) k.transfers s.ranges;
@@ -162,21 +149,56 @@ module _ (k : Kernel) (m : Memory) (n : ℕ) (t : Transfer) (posted : List Input
     few = s.few;
     backed = ends.backed;
     guarded = ends.guarded;
-    counted = counted;
-    owners = record {
-      system = owned_before.system;
-      pooled = λ f d is. pool_same f d ∙ owned_before.pooled f d is;
-      spare = owned_before.spare;
-      pool_frames = λ f d l. owned_before.pool_frames f d (subst (λ j. 0 < j) (pool_same f d) l);
-    };
+    counted = ends.counted;
+    owners = ends.owners;
     held = held_less k.config.page k.memory m (owned_regions k.spaces.processes) (has_number n) k.transfers ends.pages held_frames s.held;
-    planned = all_to (λ (u : Transfer). Lends k.config.page m.frames.owners (is_early_device (entry k.devices u.dev)) u u.dir) (λ (u : Transfer). Lends k.config.page m.frames.owners (is_early_device (entry devices u.dev)) u u.dir) us (λ u h. subst (λ b. Lends k.config.page m.frames.owners b u u.dir) (sym (frees.buffer.early u.dev)) h) planned_before;
+    planned = all_to (λ (u : Transfer). Lends k.config.page m.frames.owners (is_early_device (entry k.devices u.dev)) u u.dir) (λ (u : Transfer). Lends k.config.page m.frames.owners (is_early_device (entry devices u.dev)) u u.dir) us (λ u h. subst (λ b. Lends k.config.page m.frames.owners b u u.dir) (sym (ends.buffer.early u.dev)) h) planned_before;
     fitting = all_to (λ (u : Transfer). FitsDevice u.len (entry k.devices u.dev)) (λ (u : Transfer). FitsDevice u.len (entry devices u.dev)) us (λ u h. fits_bare (entry devices u.dev) (entry k.devices u.dev) u.len (device_same u.dev) h) (fitting_less k.devices (has_number n) k.transfers s.fitting);
     posted = listed;
     sending = λ d. sending_bare (entry devices d) (entry k.devices d) (first_waiting us d) (device_same d) (sending_less k.devices (has_number n) t k.transfers found unqueued s.sending d);
     receiving = λ d. receiving_bare (entry devices d) (entry k.devices d) (receiver us d) (device_same d) (receiving_less k.devices (has_number n) t k.transfers found unmoved s.receiving d);
-    arrived = arrived_less (has_number n) t k.transfers k.devices devices k.pools pools found frees.buffer s.arrived;
+    arrived = arrived_less (has_number n) t k.transfers k.devices devices k.pools pools found ends.buffer s.arrived;
   }
+
+-- where the pools keep their loans, those of the transfer are all that is given back
+module _ (k : Kernel) (m : Memory) (n : ℕ) (t : Transfer) (devices : List (Option DeviceView)) (pools : List (Option PoolState)) (s : IsSettled k) (found : find (has_number n) k.transfers ≡ Some t) (ends : EndsLoans k n t m) (frees : EndsBuffer k t devices pools) where
+  abbrev others : List Transfer
+  others = without (has_number n) k.transfers
+
+  pool_same : (f d : ℕ) → pool_on f (entry pools d) ≡ pool_on f (entry k.pools d)
+  pool_same f d = sym (pool_bare f (entry pools d)) ∙ ap (pool_on f) (sym (entry_map bare_pool refl pools d) ∙ ap (λ l. entry l d) frees.same_pools ∙ entry_map bare_pool refl k.pools d) ∙ pool_bare f (entry k.pools d)
+
+  counted : AreCounted m.frames.counts others pools
+  counted f =
+      let same : sum_by (pool_on f) k.pools ≡ sum_by (pool_on f) pools = sym (sum_bare f k.pools) ∙ ap (sum_by (pool_on f)) (sym frees.same_pools) ∙ sum_bare f pools in
+      counts_shrink (has_number n) t k.transfers k.pools k.memory.frames.counts m.frames.counts found ends.counts s.counted f ∙ (λ i. record (lent_of others k.pools f) { input = sum_by (loans_on kind.Input f) others + same i })
+
+  pub ends_over : EndsOver k n t m devices pools
+  ends_over =
+      let owned : AreOwned m.frames.owners others k.pools = owned_less n t k.transfers k.pools k.memory.frames.owners m.frames.owners found ends.owners s.owners in
+      record {
+        sized = ends.sized;
+        sound = ends.sound;
+        cached = ends.cached;
+        backed = ends.backed;
+        guarded = ends.guarded;
+        counted = counted;
+        owners = record {
+          system = owned.system;
+          pooled = λ f d is. pool_same f d ∙ owned.pooled f d is;
+          spare = owned.spare;
+          pool_frames = λ f d l. owned.pool_frames f d (subst (λ j. 0 < j) (pool_same f d) l);
+        };
+        own = ends.own;
+        pages = ends.pages;
+        equipped = frees.equipped;
+        same_devices = frees.same_devices;
+        buffer = frees.buffer;
+      }
+
+pub transfer_ends : (k : Kernel) (m : Memory) (n : ℕ) (t : Transfer) (posted : List Input) (devices : List (Option DeviceView)) (pools : List (Option PoolState)) → IsSettled k → find (has_number n) k.transfers ≡ Some t → is_queued t.phase ≡ false → is_moving t.phase ≡ false → EndsLoans k n t m → EndsBuffer k t devices pools → ArePosted posted (without (has_number n) k.transfers)
+    → IsSettled (record k { memory = m; transfers = without (has_number n) k.transfers; posted = posted; devices = devices; pools = pools })
+transfer_ends k m n t posted devices pools s found unqueued unmoved ends frees listed = transfer_ends_over k m n t posted devices pools s found unqueued unmoved (ends_over k m n t devices pools s found ends frees) listed
 
 pub no_buffer_ends : (k : Kernel) (t : Transfer) → IsSettled k → t.buffer ≡ None → EndsBuffer k t k.devices k.pools
 no_buffer_ends k t s none = record {

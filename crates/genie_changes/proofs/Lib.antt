@@ -26,10 +26,12 @@ pub mod Starting
 pub mod InRegion
 pub mod Moved
 pub mod GivenBack
+pub mod LoansOut
 pub mod EndedTransfer
 pub mod Settling
 pub mod Lent
 pub mod Keeping
+pub mod RegionLeft
 pub mod RegionGone
 pub mod StateGone
 pub mod Paging
@@ -37,3 +39,10 @@ pub mod Forgetting
 pub mod Disowned
 pub mod ProcessGone
 pub mod SettledEnds
+pub mod MovedOut
+pub mod RegionTurned
+pub mod UnnamedGone
+pub mod RegionHidden
+pub mod StateHidden
+pub mod BuffersAlike
+pub mod BufferFreed

@@ -72,6 +72,18 @@ module _ (ps : List (Option (List Region))) (p : ℕ) (rs : List Region) (e : en
       ∙ ap (λ (l : List flat.Region). set (processes_view s ps qs) p (Some (record { queue = q; regions = l }))) (added_view s r rs)
       ∙ sym (ap (λ (o : Option flat.Process). set (processes_view s ps qs) p (change_process (with_region (region_view s r)) o)) (process_entry s ps qs p ∙ ap (λ (o : Option (List Region)). process_view s o q) e))
 
+-- the state is the same where regions, the frames that devices need and orphans show the same
+pub kept_alike : (k : Kernel) (old new : Bytes) → KeepsBytes k old new → state_of k new ≡ state_of k old
+kept_alike k old new keeps =
+    let a = old.seen.kept_bytes in
+    let b = new.seen.kept_bytes in
+    let rs : List Region = owned_regions k.spaces.processes in
+    let processes = processes_alike old.seen.entry_bytes new.seen.entry_bytes k.spaces.processes k.queues keeps.entries in
+    let orphans = orphans_alike rs k.transfers k.pools a b keeps.frames k.config.page in
+    let transfers = transfers_alike rs k.transfers k.pools a b keeps.frames k.devices in
+    let devices = (λ i. devices_view b 0 (keeps.rests i) (keeps.sents i) k.pools (receiver k.transfers) k.devices) ∙ devices_alike rs k.transfers k.pools a b keeps.frames 0 old.rests old.sents (receiver k.transfers) k.devices in
+    λ i. record (state_of k old) { processes = processes i; orphans = orphans i; transfers = transfers i; devices = devices i }
+
 pub added_region : (k : Kernel) (m : Memory) (spaces : AddressSpaces) (old new : Bytes) (p : ℕ) (r : Region) (rs : List Region) → entry k.spaces.processes p ≡ Some rs → spaces.processes ≡ set k.spaces.processes p (Some (with_added r rs)) → list_any (names_weakly r.id.0) k.transfers ≡ false → KeepsBytes k old new
     → state_of (record k { memory = m; spaces = spaces }) new ≡ add_region (state_of k old) p (region_view new.seen.entry_bytes r)
 added_region k m spaces old new p r rs e procs none keeps =

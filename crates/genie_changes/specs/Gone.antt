@@ -16,6 +16,7 @@ use Rattle.genie_kernel.specs.Calls.{has_number}
 use Rattle.genie_kernel.specs.Changes.{changed_by}
 use Rattle.genie_kernel.specs.View.{Bytes, state_of}
 use Rattle.genie_changes.specs.Ending.{ShowsOthers, without_call}
+use Rattle.genie_changes.specs.Regions.{KeepsBytes}
 use Rattle.genie_changes.specs.Settled.{IsSettled}
 
 -- the region that a transfer names still once its process is gone: a weak one its own, or what is left of it
@@ -42,3 +43,7 @@ GoneState = (k : Kernel) (p : ℕ) (b : Bytes) → entry k.spaces.processes p �
 abbrev pub SettledTransferLeaves : Type 0
 SettledTransferLeaves = (k : Kernel) (m : Memory) (n : ℕ) (t : Transfer) (posted : List Input) (old new : Bytes) → IsSettled k → find (has_number n) k.transfers ≡ Some t → is_queued t.phase ≡ false → is_moving t.phase ≡ false → ShowsOthers k n old new
     → state_of (without_call k m n posted) new ≡ tidy (without_transfer (state_of k old) n)
+
+-- the state is the same where regions, the frames that devices need and orphans show the same
+abbrev pub KeptBytesAreAlike : Type 0
+KeptBytesAreAlike = (k : Kernel) (old new : Bytes) → KeepsBytes k old new → state_of k new ≡ state_of k old

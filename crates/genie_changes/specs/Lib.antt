@@ -8,10 +8,16 @@ pub mod Regions
 pub mod Premises
 pub mod Removing
 pub mod Beginning
+pub mod Guarding
 pub mod Lemmas
 pub mod Making
+pub mod MovingOut
 pub mod Settled
 pub mod Ending
 pub mod Paged
 pub mod Removal
 pub mod Gone
+pub mod Hiding
+pub mod Turned
+pub mod Unnamed
+pub mod Released

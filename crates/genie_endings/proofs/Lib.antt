@@ -3,3 +3,7 @@ pub mod Phases
 pub mod Served
 pub mod Applied
 pub mod Sent
+pub mod Filled
+pub mod GivenUp
+pub mod MovedOut
+pub mod Removed

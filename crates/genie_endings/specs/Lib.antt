@@ -1,3 +1,4 @@
 pub mod Serving
 pub mod Ends
 pub mod EndingLaws
+pub mod Named

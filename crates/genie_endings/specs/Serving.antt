@@ -4,6 +4,8 @@ use Rattle.genie_base.specs.Events.{mark_of}
 use Rattle.genie_base.specs.declared.event.Event.{Event}
 use Rattle.genie_base.specs.declared.reply.Mark.TheVariants.{NoFault}
 use Rattle.genie_base.specs.declared.reply.Reply.{Reply}
+use Rattle.genie_store.specs.StoreView.{StoreView}
+use Rattle.genie_object.specs.Sound.{IsSized}
 use Rattle.genie_kernel.specs.declared.kernel.Kernel.{Kernel}
 use Rattle.genie_kernel.specs.Good.{IsGood}
 use Rattle.genie_kernel.specs.Kept.{Kept}
@@ -13,6 +15,7 @@ use Rattle.genie_kernel.specs.Steps.{StepsAlone}
 -- store hold, and no frame is freed or gets another owner while a device holds it
 pub record IsServed (old : Kernel) (e : Event) (new : Kernel) (reply : Reply) : Type 0 where
   pub good : IsGood new
+  pub sized : (v : StoreView) → IsSized old.memory v → IsSized new.memory v
   pub step : StepsAlone old e new reply
   pub kept : Kept old new
   pub config : new.config ≡ old.config

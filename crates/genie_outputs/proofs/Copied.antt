@@ -25,7 +25,7 @@ use Rattle.genie_outputs.specs.Answering.{IsAnswered, IsReady}
 use Rattle.genie_outputs.specs.Calls.{with_output}
 use Rattle.genie_outputs.specs.OutputLaws.{OutputLaws}
 use Rattle.genie_outputs.proofs.Answered.{begun_answered, failed_answered, strong_told, taken_back}
-use Rattle.genie_outputs.proofs.Lending.{hidden_fit, strong_begins}
+use Rattle.genie_outputs.proofs.Loaned.{hidden_fit, strong_begins}
 use Rattle.genie_outputs.proofs.Pages.{HasPages}
 use Rattle.genie_outputs.proofs.Reached.{fits_device, may_output}
 use Rattle.genie_outputs.proofs.Shown.{outline_shows}

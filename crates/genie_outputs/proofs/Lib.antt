@@ -1,7 +1,12 @@
 pub mod Pages
 pub mod Reached
-pub mod Lending
+pub mod Loaned
 pub mod Shown
 pub mod Stepping
 pub mod Answered
 pub mod Copied
+pub mod Narrowed
+pub mod Lent
+pub mod Shared
+pub mod Given
+pub mod Gone

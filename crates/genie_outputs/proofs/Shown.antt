@@ -42,7 +42,7 @@ use Rattle.genie_tcow.specs.Lending.{HasLent, see_lent, loans_on}
 use Rattle.genie_tcow.specs.Ranges.{IsPlanOf}
 use Rattle.genie_outputs.specs.declared.call.Call.{Call}
 use Rattle.genie_outputs.specs.Calls.{Reaches, place_in, range_of, transfer_of}
-use Rattle.genie_outputs.proofs.Lending.{all_strong, none_or, on_times}
+use Rattle.genie_outputs.proofs.Loaned.{all_strong, none_or, on_times}
 use Rattle.genie_outputs.proofs.Pages.{HasPages, bytes_size, part_of_pages, shown_joined, span_within, zeros_of_pages}
 use Rattle.genie_outputs.proofs.Reached.{range_inside, some_page}
 

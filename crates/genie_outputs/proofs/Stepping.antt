@@ -30,7 +30,7 @@ use Rattle.genie_changes.specs.States.{begun}
 use Rattle.genie_outputs.specs.declared.call.Call.{Call}
 use Rattle.genie_outputs.specs.Calls.{Reaches, event_of, place_in, transfer_of, with_output}
 use Rattle.genie_outputs.specs.OutputLaws.{OutputLaws}
-use Rattle.genie_outputs.proofs.Lending.{new_output, no_address}
+use Rattle.genie_outputs.proofs.Loaned.{new_output, no_address}
 use Rattle.genie_outputs.proofs.Reached.{reach_view, reached_owned}
 use Rattle.genie_outputs.proofs.Shown.{Shows}
 
@@ -88,5 +88,15 @@ steps_to k after c r b new reached is =
     let found : model.reach_of s c.pid c.addr c.len ≡ Some (region_view b.seen.entry_bytes r) = reach_view k b c.pid c.addr c.len ∙ ap (option_map (region_view b.seen.entry_bytes)) reached in
     record {
       state = sym (tidy_view after new) ∙ ap tidy (is ∙ sym (ap (λ (o : Option flat.Region). give_up (add_transfer s (output_of s c.pid (class_of c.sem) (record { device = c.dev; port = c.port; flow = c.flow }) c.addr c.len o)) (class_of c.sem) o) found));
+      reply_is = refl;
+    }
+
+-- so is one that was tidied
+pub steps_tidied : (k after : Kernel) (c : Call) (r : Region) (b new : Bytes) → Reaches k c r → state_of after new ≡ tidy (give_up (add_transfer (state_of k b) (output_of (state_of k b) c.pid (class_of c.sem) (record { device = c.dev; port = c.port; flow = c.flow }) c.addr c.len (Some (region_view b.seen.entry_bytes r)))) (class_of c.sem) (Some (region_view b.seen.entry_bytes r))) → Steps (state_of k b) (event_of c) (state_of after new) (reply.Id k.next)
+steps_tidied k after c r b new reached is =
+    let s : flat.State = state_of k b in
+    let found : model.reach_of s c.pid c.addr c.len ≡ Some (region_view b.seen.entry_bytes r) = reach_view k b c.pid c.addr c.len ∙ ap (option_map (region_view b.seen.entry_bytes)) reached in
+    record {
+      state = is ∙ ap tidy (sym (ap (λ (o : Option flat.Region). give_up (add_transfer s (output_of s c.pid (class_of c.sem) (record { device = c.dev; port = c.port; flow = c.flow }) c.addr c.len o)) (class_of c.sem) o) found));
       reply_is = refl;
     }

@@ -1,3 +1,5 @@
 pub mod Calls
 pub mod Answering
 pub mod OutputLaws
+pub mod Sharing
+pub mod GivingUp

@@ -7,3 +7,12 @@ mod Protecting
 mod Discarding
 mod Mapping
 mod Unmapping
+mod EndedFlat
+mod Exiting
+mod Disowning
+mod Exited
+mod Beside
+mod Copying
+mod Ready
+mod Forked
+mod Ended

@@ -13,7 +13,7 @@ use Rattle.genie_kernel.specs.declared.kernel.Kernel.{Kernel}
 use Rattle.genie_kernel.specs.Regions.{has_id, owned_regions, process_view, processes_view, region_view, regions_of}
 use Rattle.genie_kernel.specs.View.{outline, no_bytes}
 
-abbrev ids : List Region → List ℕ
+abbrev pub ids : List Region → List ℕ
 ids rs = map (λ (r : Region). r.id.0) rs
 
 ids_append : (xs ys : List Region) → ids (xs ++ ys) ≡ ids xs ++ ids ys
@@ -32,7 +32,7 @@ module _ (s : ℕ → ℕ → List ℕ) where
   process_numbers None q = refl
   process_numbers (Some rs) q = ids_view rs
 
-  numbers_view : (ps : List (Option (List Region))) (qs : List (List ℕ)) → flat_map region_numbers (processes_view s ps qs) ≡ ids (owned_regions ps)
+  pub numbers_view : (ps : List (Option (List Region))) (qs : List (List ℕ)) → flat_map region_numbers (processes_view s ps qs) ≡ ids (owned_regions ps)
   numbers_view [] qs = refl
   numbers_view (p ∷ ps) [] = ap₂ ◌++◌ (process_numbers p []) (numbers_view ps []) ∙ sym (ids_append (regions_of p) (owned_regions ps))
   numbers_view (p ∷ ps) (q ∷ qs) = ap₂ ◌++◌ (process_numbers p q) (numbers_view ps qs) ∙ sym (ids_append (regions_of p) (owned_regions ps))

@@ -18,11 +18,12 @@ use Rattle.genie_model.specs.Tables.{entry}
 use Rattle.genie_kernel.specs.declared.kernel.Kernel.{Kernel}
 use Rattle.genie_kernel.specs.Good.{IsGood}
 use Rattle.genie_kernel.specs.Regions.{has_id, region_view, regions_of}
-use Rattle.genie_kernel.specs.Steps.{StaysOrderly, Steps, bytes_over}
+use Rattle.genie_kernel.specs.Steps.{Steps, bytes_over}
 use Rattle.genie_kernel.specs.View.{Bytes, state_of, outline, no_bytes}
 use Rattle.genie_kernel.specs.Lemmas.Processes.{alive_view, is_some_map, region_from_view}
-use Rattle.genie_changes.specs.Removal.{OutlinesShowRemoval, RemovalKeeps, RemovalSettles, RemovalShows, RemovalState, RemovesRegion, ShowsRemoval}
-use Rattle.genie_changes.specs.Settled.{GoodIsSettled, IsSettled, SettledIsGood}
+use Rattle.genie_changes.specs.Removal.{RemovesRegion, ShowsRemoval}
+use Rattle.genie_changes.specs.Settled.{IsSettled}
+use Rattle.genie_spaces.specs.ExitLaws.{RemovalLaws}
 use Rattle.genie_spaces.specs.ServingPaged.{IsServedPaged}
 use Rattle.genie_spaces.proofs.Protecting.{none_some}
 
@@ -51,18 +52,7 @@ found_by_number r (x ∷ rs) apart (inr later) =
 pub started_found : (k : Kernel) (p g : ℕ) (r : Region) → IsSettled k → find (starts_at g) (spaces.regions_of p k.spaces) ≡ Some r → find (has_id r.id.0) (spaces.regions_of p k.spaces) ≡ Some r
 started_found k p g r s e = found_by_number r (spaces.regions_of p k.spaces) (s.numbered.each p) (find_has (starts_at g) (spaces.regions_of p k.spaces) r e).0
 
--- what the laws say
-pub record UnmapLaws : Type 0 where
-  pub orderly : StaysOrderly
-  pub settled : GoodIsSettled
-  pub good : SettledIsGood
-  pub settles : RemovalSettles
-  pub keeps : RemovalKeeps
-  pub shows : RemovalShows
-  pub outlines : OutlinesShowRemoval
-  pub state : RemovalState
-
-module _ (laws : UnmapLaws) (k new : Kernel) (p g : ℕ) (r : Region) (good : IsGood k) (accepted : refuse (outline k) (Unmap p g) ≡ None) (found : find (starts_at g) (spaces.regions_of p k.spaces) ≡ Some r) (x : RemovesRegion p r k new) where
+module _ (laws : RemovalLaws) (k new : Kernel) (p g : ℕ) (r : Region) (good : IsGood k) (accepted : refuse (outline k) (Unmap p g) ≡ None) (found : find (starts_at g) (spaces.regions_of p k.spaces) ≡ Some r) (x : RemovesRegion p r k new) where
   settled : IsSettled k
   settled = laws.settled k good
 

@@ -5,4 +5,7 @@ pub mod Marks
 pub mod Clearing
 pub mod RegionLaws
 pub mod ServingPaged
+pub mod Exiting
+pub mod ExitLaws
 pub mod Lemmas
+pub mod Forking

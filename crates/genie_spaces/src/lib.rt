@@ -1,6 +1,9 @@
 //! The kernel's events on address spaces.
 #![tactic(auto)]
 
+mod copies;
+pub mod exit;
+pub mod fork;
 pub mod laws;
 pub mod map;
 pub mod number;

@@ -1,5 +1,5 @@
 //! The number of a new region.
-ghost use Rattle.std.specs.Prelude.{◌≡◌, ◌==◌, ℕ, length, false, replicate};
+ghost use Rattle.std.specs.Prelude.{◌≡◌, ◌==◌, ◌<◌, ℕ, length, false, replicate, None};
 ghost use Rattle.std.specs.List.{list_any};
 ghost use Rattle.genie_space.specs.Spaces.{regions_of};
 ghost use Rattle.genie_model.specs.Regions.{fresh};
@@ -7,6 +7,8 @@ ghost use Rattle.genie_kernel.specs.Calls.{names_weakly};
 ghost use Rattle.genie_kernel.specs.Good.{IsGood};
 ghost use Rattle.genie_kernel.specs.Regions.{has_id};
 ghost use Rattle.genie_kernel.specs.View.{outline};
+ghost use Rattle.genie_model.specs.Tables.{entry};
+ghost use Rattle.genie_spaces.specs.Forking.{with_child};
 ghost use Rattle.genie_spaces.specs.Marks.{Marks, IsLeast, has_region};
 
 use genie_kernel::{Kernel, Transfer, Transfers};
@@ -96,6 +98,18 @@ pub fn fresh_number(kernel: &Kernel) -> u32
 {
     let mut marks = [false; NUMBERS];
     mark_spaces(&mut marks, &kernel.spaces);
+    mark_transfers(&mut marks, &kernel.transfers);
+    first_unmarked(&marks)
+}
+
+// The same where a process that isn't there yet is to have these regions.
+pub(crate) fn fresh_beside(kernel: &Kernel, copies: &Regions) -> u32
+    requires { length kernel.now.spaces.processes ≡ 16 }
+    ensures { (child : ℕ) → child < 16 → entry kernel.now.spaces.processes child ≡ None → result ≡ fresh (outline (with_child kernel.now child copies.now)) }
+{
+    let mut marks = [false; NUMBERS];
+    mark_spaces(&mut marks, &kernel.spaces);
+    mark_regions(&mut marks, copies);
     mark_transfers(&mut marks, &kernel.transfers);
     first_unmarked(&marks)
 }

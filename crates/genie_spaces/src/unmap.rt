@@ -6,11 +6,10 @@ ghost use Rattle.genie_kernel.specs.Good.{IsGood};
 ghost use Rattle.genie_kernel.specs.View.{outline};
 ghost use Rattle.genie_spaces.specs.ServingPaged.{IsServedPaged};
 
+use crate::laws::removal_laws;
 use genie_base::Reply;
-use genie_changes::removal::{remove_region, removed_regions};
-use genie_changes::settled::good_kernels_are_settled;
+use genie_changes::removal::remove_region;
 use genie_kernel::Kernel;
-use genie_kernel::laws::accepted_events_step;
 
 /// Removes the region that starts at page `page`, also from the process's weak queue. Devices still reach what they need of
 /// it: a frame that is lent is nobody's until its loans are back, and what pending weak transfers cover of the region stays
@@ -20,9 +19,7 @@ pub fn unmap(kernel: &mut Kernel, pid: u32, page: u32) -> Reply<'static>
     requires accepted { refuse (outline kernel.old) (event.Unmap pid page) ≡ None }
     ensures { IsServedPaged kernel.old (event.Unmap pid page) kernel.new result }
 {
-    accepted_events_step();
-    good_kernels_are_settled();
-    removed_regions();
+    removal_laws();
     match kernel.spaces.regions(pid).starting_at(page) {
         Some(region) => {
             remove_region(kernel, pid, region);

@@ -21,7 +21,7 @@ get_replicate (suc n) zero = refl
 get_replicate (suc n) (suc i) = get_replicate n i
 
 -- its entries are what was read there before
-entry_made : (os : List (List Entry)) (o n a i : ℕ) → object_at os o ≡ [] → entry_at (set os o (replicate n no_entry)) a i ≡ entry_at os a i
+pub entry_made : (os : List (List Entry)) (o n a i : ℕ) → object_at os o ≡ [] → entry_at (set os o (replicate n no_entry)) a i ≡ entry_at os a i
 entry_made [] o n a i e = refl
 entry_made (x ∷ os) zero n zero i e = get_replicate n i ∙ sym (ap (λ (y : List Entry). get_or y i no_entry) e)
 entry_made (x ∷ os) zero n (suc a) i e = refl

@@ -1,4 +1,4 @@
-use Rattle.std.proofs.Common.{◌≡◌, ℕ, arith, false, sym, ◌∙◌}
+use Rattle.std.proofs.Common.{◌≡◌, arith, false, sym, ◌∙◌}
 use Rattle.std.specs.List.{list_any}
 use Rattle.genie_model.specs.Lemmas.Lists.{none_found}
 use Rattle.genie_model.specs.Tables.{entry}

@@ -6,3 +6,6 @@ returns-clause-sound c = (c.shed_until.ensures.room no_store).sound
 
 pub returns-clause-fits : goal.returns-clause-fits
 returns-clause-fits c = (c.shed_until.ensures.room no_store).fits
+
+pub returns-clause-sizes : goal.returns-clause-sizes
+returns-clause-sizes c = (c.shed_until.ensures.room no_store).keeps.entries

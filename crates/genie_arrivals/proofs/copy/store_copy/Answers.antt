@@ -1,0 +1,81 @@
+use Rattle.std.proofs.Common.{List, sym, ap, subst}
+use Rattle.genie_base.specs.Transfers.{is_strong}
+use Rattle.genie_base.specs.declared.event.Event.TheVariants.{Finish}
+use Rattle.genie_base.specs.declared.reply.Reply.TheVariants as reply
+use Rattle.std.specs.Prelude.{None}
+use Rattle.genie_frame.specs.declared.frame.InLoan.{InLoan}
+use Rattle.genie_plan.specs.Plans.{input_frames}
+use Rattle.genie_kernel.specs.declared.kernel.Kernel.{Kernel}
+use Rattle.genie_kernel.specs.declared.transfer.Transfer.{Transfer}
+use Rattle.genie_kernel.specs.Planned.{LendsIn}
+use Rattle.genie_arrivals.specs.Failing.{Serves}
+use Rattle.genie_arrivals.specs.Stored.{CanStoreBuffer, StoresBuffer}
+use Rattle.genie_arrivals.proofs.Closing.{Taken, aim_taken, fault_serves, refused_alike, stored_serves}
+use Rattle.genie_arrivals.proofs.Finishing.{can_store, has_buffer, lends_inward}
+use Rattle.genie_arrivals.proofs.Found.{found_over, found_some}
+use Rattle.genie_arrivals.proofs.Readying.{aim, aim_moved}
+use Rattle.genie_arrivals.proofs.copy.store_copy.Goals as goal
+
+pub make_ready-requires-clause-pending : goal.make_ready-requires-clause-pending
+make_ready-requires-clause-pending g c = found_some c.args.kernel.now c.args.id.0 c.requires.accepted
+
+pub returns-in-Err : goal.returns-in-Err
+returns-in-Err g c = fault_serves c.args.kernel.now c.make_ready.new.kernel (g.S.Store.view c.args.store.now) (g.S.Store.view c.make_ready.new.store) c.args.id.0 c.requires.accepted c.make_ready.ensures.moved c.in-Err.ensures.cause.failed
+
+pub remove-transfer-requires : goal.remove-transfer-requires
+remove-transfer-requires g c = found_some c.make_ready.new.kernel c.args.id.0 (refused_alike c.args.kernel.now c.make_ready.new.kernel (g.S.Store.view c.args.store.now) (g.S.Store.view c.make_ready.new.store) c.args.id.0 c.make_ready.ensures.moved c.requires.accepted)
+
+pub store_buffer-requires : goal.store_buffer-requires
+store_buffer-requires g c =
+    let k : Kernel = c.args.kernel.now in
+    let mid : Kernel = c.make_ready.new.kernel in
+    let t : Transfer = c.remove-transfer.result in
+    let v = g.S.Store.view c.args.store.now in
+    let w = g.S.Store.view c.make_ready.new.store in
+    let moved = c.make_ready.ensures.moved in
+    let found = c.remove-transfer.ensures.removed in
+    let a = aim_moved k mid c.args.id.0 c.args.range.now v w moved (aim k c.args.id.0 c.args.range.now (found_some k c.args.id.0 c.requires.accepted) c.requires.case c.requires.target) in
+    let taken : Taken mid t c.args.range.now = aim_taken mid c.args.id.0 c.args.range.now t a found in
+    let strong = ap is_strong taken.is.class_is in
+    let h = has_buffer mid c.args.id.0 t c.in-Inward.plan moved.good found taken.is.early strong taken.is.inward c.in-Inward.is in
+    let can = can_store c.copy_laws.ensures mid c.args.id.0 t c.args.range.now c.in-Inward.plan.loans.items moved.good found taken.is.class_is taken.is.inward taken.target h c.few_bytes-few.result (c.in-Ok.ensures.can c.few_bytes-few.result) c.make_ready.ensures.meters strong in
+    subst (λ (l : List InLoan). CanStoreBuffer mid.memory c.args.range.now.object.0 c.args.range.now.off c.args.range.now.len c.few_bytes-few.result (input_frames l)) (sym c.as_slice.ensures.value) can
+
+pub unreachable-requires : goal.unreachable-requires
+unreachable-requires g c =
+    let k : Kernel = c.args.kernel.now in
+    let mid : Kernel = c.make_ready.new.kernel in
+    let t : Transfer = c.remove-transfer.result in
+    let moved = c.make_ready.ensures.moved in
+    let found = c.remove-transfer.ensures.removed in
+    let a = aim_moved k mid c.args.id.0 c.args.range.now (g.S.Store.view c.args.store.now) (g.S.Store.view c.make_ready.new.store) moved (aim k c.args.id.0 c.args.range.now (found_some k c.args.id.0 c.requires.accepted) c.requires.case c.requires.target) in
+    let taken : Taken mid t c.args.range.now = aim_taken mid c.args.id.0 c.args.range.now t a found in
+    subst (LendsIn mid.config.page t) c.in-Outward.is (lends_inward mid c.args.id.0 t moved.good found taken.is.early (ap is_strong taken.is.class_is) taken.is.inward)
+
+pub unreachable-requires-in-Nothing : goal.unreachable-requires-in-Nothing
+unreachable-requires-in-Nothing g c =
+    let k : Kernel = c.args.kernel.now in
+    let mid : Kernel = c.make_ready.new.kernel in
+    let t : Transfer = c.remove-transfer.result in
+    let moved = c.make_ready.ensures.moved in
+    let found = c.remove-transfer.ensures.removed in
+    let a = aim_moved k mid c.args.id.0 c.args.range.now (g.S.Store.view c.args.store.now) (g.S.Store.view c.make_ready.new.store) moved (aim k c.args.id.0 c.args.range.now (found_some k c.args.id.0 c.requires.accepted) c.requires.case c.requires.target) in
+    let taken : Taken mid t c.args.range.now = aim_taken mid c.args.id.0 c.args.range.now t a found in
+    subst (LendsIn mid.config.page t) c.in-Nothing.is (lends_inward mid c.args.id.0 t moved.good found taken.is.early (ap is_strong taken.is.class_is) taken.is.inward)
+
+pub returns : goal.returns
+returns g c =
+    let k : Kernel = c.args.kernel.now in
+    let mid : Kernel = c.make_ready.new.kernel in
+    let t : Transfer = c.remove-transfer.result in
+    let v = g.S.Store.view c.args.store.now in
+    let w = g.S.Store.view c.make_ready.new.store in
+    let moved = c.make_ready.ensures.moved in
+    let found = c.remove-transfer.ensures.removed in
+    let a = aim_moved k mid c.args.id.0 c.args.range.now v w moved (aim k c.args.id.0 c.args.range.now (found_some k c.args.id.0 c.requires.accepted) c.requires.case c.requires.target) in
+    let taken : Taken mid t c.args.range.now = aim_taken mid c.args.id.0 c.args.range.now t a found in
+    let strong = ap is_strong taken.is.class_is in
+    let h = has_buffer mid c.args.id.0 t c.in-Inward.plan moved.good found taken.is.early strong taken.is.inward c.in-Inward.is in
+    let stored : StoresBuffer mid.memory c.store_buffer.new.memory c.args.range.now.object.0 c.args.range.now.off c.args.range.now.len (input_frames c.in-Inward.plan.loans.items) = subst (λ (l : List InLoan). StoresBuffer mid.memory c.store_buffer.new.memory c.args.range.now.object.0 c.args.range.now.off c.args.range.now.len (input_frames l)) c.as_slice.ensures.value c.store_buffer.ensures in
+    let ready = found_over mid c.args.id.0 t (refused_alike k mid v w c.args.id.0 moved c.requires.accepted) found in
+    subst (λ (ts : List Transfer). Serves k (Finish c.args.id.0) (record mid { memory = c.store_buffer.new.memory; transfers = ts }) v w (reply.Input None t.stored t.note)) (sym c.remove-transfer.ensures.others) (stored_serves c.end_laws.ensures c.copy_laws.ensures c.swap_laws.ensures c.paged_events_are_told.ensures k mid v w c.args.id.0 t c.args.range.now c.in-Inward.plan.loans.items c.store_buffer.new.memory c.requires.accepted moved c.in-Ok.ensures.cause.kept (g.met.S.Store.paged c.make_ready.new.store) found ready taken h stored)

@@ -1,0 +1,7 @@
+use Rattle.genie_arrivals.proofs.room.make_frames.Goals as goal
+
+pub returns-in-Ok-clause-moved : goal.returns-in-Ok-clause-moved
+returns-in-Ok-clause-moved g c = c.memory_moves.ensures.room c.args.kernel.now _ (g.S.Store.view c.args.store.now) (g.S.Store.view c.make_room.new.store) c.requires.good c.requires.sized (λ i. record (c.args.kernel.now) { memory = c.make_room.new.memory; hidden = c.make_room.ensures.hidden i; clock = c.make_room.new.clock }) c.make_room.ensures.room
+
+pub returns-in-Err-clause-moved : goal.returns-in-Err-clause-moved
+returns-in-Err-clause-moved g c = c.memory_moves.ensures.room c.args.kernel.now _ (g.S.Store.view c.args.store.now) (g.S.Store.view c.make_room.new.store) c.requires.good c.requires.sized (λ i. record (c.args.kernel.now) { memory = c.make_room.new.memory; hidden = c.make_room.ensures.hidden i; clock = c.make_room.new.clock }) c.make_room.ensures.room

@@ -1,0 +1,44 @@
+//! Free frames for the end of an input.
+ghost use Rattle.std.specs.Prelude.{◌≡◌, ◌≤◌, ◌+◌, ◌^◌, count_by, OnOk};
+ghost use Rattle.genie_base.specs.Causes.{HasCause};
+ghost use Rattle.genie_frame.specs.FrameTable.{is_free};
+ghost use Rattle.genie_hiding.specs.Rooms.{available};
+ghost use Rattle.genie_object.specs.Costs.{AreBelow};
+ghost use Rattle.genie_object.specs.Sound.{IsSized};
+ghost use Rattle.genie_kernel.specs.Good.{IsGood};
+ghost use Rattle.genie_changes.specs.Making.{IsMoved};
+
+use genie_changes::making::memory_moves;
+use genie_kernel::Kernel;
+use genie_pageout::make_room;
+use genie_room::laws::places_suffice;
+use genie_store::{Store, StoreFault};
+
+// Makes so many frames free.
+pub(crate) fn make_frames<S: Store>(
+    kernel: &mut Kernel,
+    store: &mut S,
+    frames: u32,
+) -> Result<(), StoreFault>
+    requires good { IsGood kernel.old }
+    requires sized { IsSized kernel.old.memory (S.view store.old) }
+    requires meters { AreBelow (2 ^ 63) kernel.old.memory.frames.meters }
+    requires frames { frames ≤ available kernel.old.memory.frames }
+    ensures moved { IsMoved kernel.old kernel.new (S.view store.old) (S.view store.new) }
+    ensures free { OnOk result (frames ≤ count_by is_free kernel.new.memory.frames.owners) }
+    ensures meters { AreBelow (2 ^ 63 + 2 ^ 20) kernel.new.memory.frames.meters }
+    ensures cause { HasCause (S.view store.old).faults (S.view store.new).faults result }
+{
+    places_suffice();
+    memory_moves();
+    match make_room(
+        &mut kernel.memory,
+        &mut kernel.hidden,
+        &mut kernel.clock,
+        store,
+        frames,
+    ) {
+        Ok(()) => Ok(()),
+        Err(fault) => Err(fault),
+    }
+}

@@ -1,0 +1,9 @@
+//! The kernel's calls.
+#![tactic(auto)]
+
+mod access;
+pub mod close;
+mod devices;
+mod endings;
+mod laws;
+mod spaces;

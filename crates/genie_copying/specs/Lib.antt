@@ -1,0 +1,5 @@
+pub mod Kinds
+pub mod Ranges
+pub mod Bounds
+pub mod Lemmas
+pub mod Rows

@@ -1,0 +1,17 @@
+use Rattle.genie_tcow.specs.Ranges.{is_of_range}
+use Rattle.genie_plan.specs.Loans as kind
+use Rattle.genie_plan.specs.Loans.{output_loans}
+use Rattle.genie_outputs.proofs.Narrowed.{back_narrowed, lent_narrowed, there_still}
+use Rattle.genie_outputs.proofs.lending.lend_strong.Goals as goal
+
+pub guard-requires : goal.guard-requires
+guard-requires g c = there_still c.args.memory.now.objects c.prepare_strong.new.memory.objects c.args.range.now.object.0 c.in-Ok.ensures.lent.keeps.entries c.requires.there
+
+pub guard-requires-in-Err : goal.guard-requires-in-Err
+guard-requires-in-Err g c = there_still c.args.memory.now.objects c.prepare_strong.new.memory.objects c.args.range.now.object.0 c.in-Err.ensures.failed.keeps.entries c.requires.there
+
+pub returns-in-Ok-clause-lent : goal.returns-in-Ok-clause-lent
+returns-in-Ok-clause-lent g c = lent_narrowed c.args.memory.now c.prepare_strong.new.memory c.guard.new.objects (g.S.Store.view c.args.store.now) (g.S.Store.view c.prepare_strong.new.store) (is_of_range c.args.memory.now.frames.page c.args.range.now) c.guard.ensures.all kind.Strong c.args.id.0 (output_loans c.in-Ok.plan.loans.items) c.in-Ok.ensures.lent
+
+pub returns-in-Err-clause-failed : goal.returns-in-Err-clause-failed
+returns-in-Err-clause-failed g c = back_narrowed c.args.memory.now c.prepare_strong.new.memory c.guard-in-Err.new.objects (g.S.Store.view c.args.store.now) (g.S.Store.view c.prepare_strong.new.store) (is_of_range c.args.memory.now.frames.page c.args.range.now) c.guard-in-Err.ensures.all c.in-Err.ensures.failed

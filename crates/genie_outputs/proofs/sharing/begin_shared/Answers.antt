@@ -1,0 +1,20 @@
+use Rattle.std.proofs.Common.{ap, sym, subst, ◌∙◌, ◌<◌, length}
+use Rattle.genie_base.specs.Transfers.{is_strong, is_system}
+use Rattle.genie_kernel.specs.declared.kernel.Kernel.{Kernel}
+use Rattle.genie_outputs.specs.Calls.{with_output}
+use Rattle.genie_outputs.proofs.Answered.{failed_answered}
+use Rattle.genie_outputs.proofs.Reached.{may_output}
+use Rattle.genie_outputs.proofs.Shared.{shared_answered}
+use Rattle.genie_outputs.proofs.sharing.begin_shared.Goals as goal
+
+pub share-requires-clause-weak : goal.share-requires-clause-weak
+share-requires-clause-weak g c = ap is_strong c.requires.class
+
+pub add_output-requires-clause-few : goal.add_output-requires-clause-few
+add_output-requires-clause-few g c = subst (λ (k : Kernel). length k.transfers < 64) (sym c.share.ensures.only) (may_output c.args.kernel.now c.args.call.now c.requires.ready.accepted).few
+
+pub returns-in-Ok : goal.returns-in-Ok
+returns-in-Ok g c = shared_answered c.output_laws.ensures c.args.kernel.now c.add_output.new.kernel c.share.new.kernel.memory c.args.call.now c.args.region.now c.args.range.now c.in-Ok.plan (g.S.Store.view c.args.store.now) (g.S.Store.view c.share.new.store) c.requires.ready (ap is_strong c.requires.class) (ap is_system c.requires.class) c.in-Ok.ensures.shared c.in-Ok.ensures.cause.kept (c.add_output.ensures ∙ ap (λ (k : Kernel). with_output k c.share.new.kernel.memory c.args.call.now c.args.region.now c.in-Ok.plan) c.share.ensures.only)
+
+pub returns-in-Err : goal.returns-in-Err
+returns-in-Err g c = failed_answered c.args.kernel.now c.share.new.kernel c.args.call.now (g.S.Store.view c.args.store.now) (g.S.Store.view c.share.new.store) c.requires.ready.accepted c.in-Err.ensures.failed c.in-Err.ensures.cause.failed

@@ -1,0 +1,102 @@
+//! Emulated outputs whose frames are lent.
+ghost use Rattle.std.specs.Prelude.{◌≡◌, ◌<◌, ◌-◌, ◌^◌, None, false};
+ghost use Rattle.genie_base.specs.Events.{mark_of};
+ghost use Rattle.genie_base.specs.Transfers.{class_of};
+ghost use Rattle.genie_base.specs.declared.event.Event.TheVariants as event;
+ghost use Rattle.genie_base.specs.declared.semantics.Class.TheVariants.{Copy};
+ghost use Rattle.genie_host.specs.Host.{HostView};
+ghost use Rattle.genie_object.specs.Costs.{AreBelow};
+ghost use Rattle.genie_object.specs.Sound.{IsSized};
+ghost use Rattle.genie_model.specs.Refusing.{refuse};
+ghost use Rattle.genie_kernel.specs.Good.{IsGood};
+ghost use Rattle.genie_kernel.specs.Kept.{Kept};
+ghost use Rattle.genie_kernel.specs.Steps.{StepsTold, StoreCause};
+ghost use Rattle.genie_kernel.specs.View.{view, outline};
+ghost use Rattle.genie_outputs.specs.Answering.{IsReady, IsAnswered};
+ghost use Rattle.genie_outputs.specs.Calls.{is_plain};
+
+use crate::begin::add_output;
+use crate::call::Call;
+use crate::laws::output_laws;
+use crate::lending::lend_strong;
+use crate::room::make_ready;
+use genie_base::{Reply, Semantics, TransferId};
+use genie_kernel::Kernel;
+use genie_object::Range;
+use genie_region::Region;
+use genie_store::Store;
+
+// Lends the range's frames, and lets the call wait over them.
+fn begin_lent<S: Store>(
+    kernel: &mut Kernel,
+    store: &mut S,
+    call: &Call,
+    region: &Region,
+    range: &Range,
+) -> Reply<'static>
+    requires ready { IsReady kernel.old call.now region.now range.now (S.view store.old) }
+    requires class { class_of call.now.sem ≡ Copy }
+    ensures { IsAnswered kernel.old call.now kernel.new (S.view store.old) (S.view store.new) result }
+{
+    output_laws();
+    let id = kernel.next;
+    match lend_strong(
+        &mut kernel.memory,
+        store,
+        TransferId(id),
+        range,
+        region.writable,
+    ) {
+        Ok(plan) => {
+            add_output(kernel, call, region, range, plan);
+            Reply::Id { id }
+        }
+        Err(_) => Reply::StoreFault,
+    }
+}
+
+/// An emulated output call of class `Copy` of more bytes than the threshold: the frames of its pages are lent as they are,
+/// and the process may write to these pages no more without a fault, which gives it a copy (transient copy-on-write). The
+/// device sends the bytes that the range has at the call. The reply has the number of the transfer. Where the store fails,
+/// what processes and devices see is as before.
+pub fn out_lent<S: Store>(
+    kernel: &mut Kernel,
+    store: &mut S,
+    pid: u32,
+    sem: Semantics,
+    dev: u32,
+    port: u16,
+    flow: Option<u32>,
+    addr: u32,
+    len: u32,
+) -> Reply<'static>
+    requires good { IsGood kernel.old }
+    requires sized { IsSized kernel.old.memory (S.view store.old) }
+    requires meters { AreBelow (2 ^ 63) kernel.old.memory.frames.meters }
+
+    // There is a number for the transfer.
+    requires numbered { kernel.old.next < 2 ^ 32 - 1 }
+    requires accepted { refuse (outline kernel.old) (event.Output pid sem dev port flow addr len) ≡ None }
+    requires class { class_of sem ≡ Copy }
+    requires emulated { is_plain sem len kernel.old.config.cout ≡ false }
+    ensures good { IsGood kernel.new }
+    ensures sized { IsSized kernel.new.memory (S.view store.new) }
+    ensures kept { Kept kernel.old kernel.new }
+    ensures step { (host : HostView) → StepsTold (view kernel.old host (S.view store.old)) (event.Output pid sem dev port flow addr len) (view kernel.new host (S.view store.new)) result }
+    ensures cause { StoreCause (mark_of result) (S.view store.old).faults (S.view store.new).faults }
+{
+    output_laws();
+    let call = Call {
+        pid,
+        sem,
+        dev,
+        port,
+        flow,
+        addr,
+        len,
+    };
+    match make_ready(kernel, store, &call) {
+        Ok((region, range)) => begin_lent(kernel, store, &call, &region, &range),
+        Err(_) => Reply::StoreFault,
+    }
+}

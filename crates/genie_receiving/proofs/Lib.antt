@@ -1,0 +1,9 @@
+pub mod Begun
+pub mod Skipping
+pub mod Strong
+pub mod Matching
+pub mod EarlySteps
+pub mod Showing
+pub mod Answering
+pub mod Weak
+pub mod Drifting

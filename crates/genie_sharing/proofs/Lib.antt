@@ -1,0 +1,5 @@
+mod Parting
+mod Copied
+mod Looping
+mod EachRegion
+mod Dropping
