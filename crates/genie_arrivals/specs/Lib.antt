@@ -11,3 +11,4 @@ pub mod Stored
 pub mod SwapLaws
 pub mod Failing
 pub mod Waiting
+pub mod Outboard

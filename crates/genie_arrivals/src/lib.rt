@@ -6,6 +6,7 @@ pub mod copy;
 pub mod gone;
 mod laws;
 mod live;
+pub mod outboard;
 mod owned;
 mod release;
 mod room;
