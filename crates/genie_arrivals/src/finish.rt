@@ -37,11 +37,7 @@ fn class_at(kernel: &Kernel, id: TransferId) -> Class
 }
 
 // Ends an input by its class.
-fn finish_by_class<S: Store>(
-    kernel: &mut Kernel,
-    store: &mut S,
-    id: TransferId,
-) -> Reply<'static>
+fn finish_by_class<S: Store>(kernel: &mut Kernel, store: &mut S, id: TransferId) -> Reply<'static>
     requires good { IsGood kernel.old }
     requires sized { IsSized kernel.old.memory (S.view store.old) }
     requires meters { AreBelow (2 ^ 63) kernel.old.memory.frames.meters }
@@ -76,6 +72,7 @@ pub fn finish_input_early<S: Store>(
     ensures good { IsGood kernel.new }
     ensures sized { IsSized kernel.new.memory (S.view store.new) }
     ensures kept { Kept kernel.old kernel.new }
+    ensures config { kernel.new.config ≡ kernel.old.config }
     ensures step { (host : HostView) → StepsTold (view kernel.old host (S.view store.old)) (event.Finish id.0) (view kernel.new host (S.view store.new)) result }
     ensures cause { StoreCause (mark_of result) (S.view store.old).faults (S.view store.new).faults }
 {
