@@ -19,4 +19,9 @@ mod Zeros
 mod Finishing
 mod Paging
 mod Closing
+mod Forbidding
+mod Emptying
+mod Unheld
+mod Filling
+mod Filled
 mod Moving

@@ -2,8 +2,11 @@
 #![tactic(auto)]
 
 mod back;
+mod clear;
 pub mod copy;
-pub mod gone;
+mod fill;
+pub mod finish;
+pub mod held;
 mod laws;
 mod live;
 pub mod outboard;
@@ -15,3 +18,5 @@ mod store;
 mod target;
 pub mod waiting;
 pub mod weak_move;
+
+pub use crate::finish::finish_input_early;

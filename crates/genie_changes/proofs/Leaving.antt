@@ -173,7 +173,7 @@ later_none : (n : ℕ) (x : Region) (rs : List Region) → has_id n x ≡ true �
 later_none n x rs is differ = none_from (has_id n) rs (λ y there. let ne = differ y there in grind (arith, rules, is, ne))
 
 -- the one that goes takes away what it adds to a sum
-sum_left : (f : Region → ℕ) (n : ℕ) (r : Region) (rs : List Region) → find (has_id n) rs ≡ Some r → AllPairs (λ (a b : Region). a.id.0 ≢ b.id.0) rs → sum_by f (without_number n rs) + f r ≡ sum_by f rs
+pub sum_left : (f : Region → ℕ) (n : ℕ) (r : Region) (rs : List Region) → find (has_id n) rs ≡ Some r → AllPairs (λ (a b : Region). a.id.0 ≢ b.id.0) rs → sum_by f (without_number n rs) + f r ≡ sum_by f rs
 sum_left f n r [] e apart = absurd (cc)
 sum_left f n r (x ∷ rs) e apart = elim (has_id n x) as (λ b. has_id n x ≡ b → cond b (Some x) (find (has_id n) rs) ≡ Some r → sum_by f (cond (not b) (x ∷ without_number n rs) (without_number n rs)) + f r ≡ sum_by f (x ∷ rs)) [
   | true ↦ λ is h.

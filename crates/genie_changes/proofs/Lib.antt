@@ -30,6 +30,7 @@ pub mod EndedTransfer
 pub mod Settling
 pub mod Lent
 pub mod Keeping
+pub mod RegionLeft
 pub mod RegionGone
 pub mod StateGone
 pub mod Paging
@@ -40,5 +41,7 @@ pub mod SettledEnds
 pub mod MovedOut
 pub mod RegionTurned
 pub mod UnnamedGone
+pub mod RegionHidden
+pub mod StateHidden
 pub mod BuffersAlike
 pub mod BufferFreed

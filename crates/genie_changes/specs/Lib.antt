@@ -17,6 +17,7 @@ pub mod Ending
 pub mod Paged
 pub mod Removal
 pub mod Gone
+pub mod Hiding
 pub mod Turned
 pub mod Unnamed
 pub mod Released

@@ -7,6 +7,7 @@ pub mod ends;
 pub mod given;
 pub mod gone;
 pub mod guarding;
+pub mod hiding;
 pub mod making;
 pub mod moving_out;
 pub mod parts;

@@ -48,7 +48,7 @@ fn unlist(queue: &mut WeakQueue, id: RegionId)
 }
 
 // Takes a region out of a process, also out of its queue.
-fn forget(kernel: &mut Kernel, pid: u32, id: RegionId)
+pub(crate) fn forget(kernel: &mut Kernel, pid: u32, id: RegionId)
     requires number { pid < 16 }
     requires alive { IsTrue (is_alive pid kernel.old.spaces) }
     requires there { IsSome (region_of id (regions_of pid kernel.old.spaces)) }

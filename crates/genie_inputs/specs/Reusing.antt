@@ -28,3 +28,7 @@ filled_region r = record r { state = In }
 -- the region is In, and leaves the weak queue of its process
 abbrev pub moved_in : Kernel → ℕ → RegionId → Kernel
 moved_in k p id = record k { spaces = spaces.set_regions k.spaces p (with_region id filled_region (spaces.regions_of p k.spaces)); queues = slice_set k.queues p (without id.0 (slice_index_or k.queues p [])) }
+
+-- the region is In
+abbrev pub with_filled : Kernel → ℕ → RegionId → Kernel
+with_filled k p id = record k { spaces = spaces.set_regions k.spaces p (with_region id filled_region (spaces.regions_of p k.spaces)) }

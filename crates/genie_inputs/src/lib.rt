@@ -4,6 +4,7 @@
 mod buffer;
 pub mod call;
 pub mod copy;
+pub mod fill;
 pub mod hold;
 mod in_place;
 mod laws;

@@ -30,6 +30,7 @@ use Rattle.genie_kernel.specs.Steps.{Steps}
 use Rattle.genie_kernel.specs.View.{Bytes, state_of, outline, no_bytes}
 use Rattle.genie_model.specs.Tables.{entry}
 use Rattle.genie_changes.specs.Beginning.{Begins, HasParts}
+use Rattle.genie_changes.specs.Hiding.{HidesRegion}
 use Rattle.genie_changes.specs.Paged.{HavePages}
 use Rattle.genie_changes.specs.Removal.{RemovesRegion}
 use Rattle.genie_changes.specs.Settled.{IsSettled}
@@ -38,7 +39,7 @@ use Rattle.genie_tcow.specs.Ranges.{IsPlanOf, SendsRange, is_of_range}
 use Rattle.genie_outputs.specs.declared.call.Call.{Call}
 use Rattle.genie_outputs.specs.Answering.{IsAnswered, IsReady}
 use Rattle.genie_outputs.specs.Calls.{event_of, transfer_of, with_output}
-use Rattle.genie_outputs.specs.GivingUp.{RemovalLaws}
+use Rattle.genie_outputs.specs.GivingUp.{HidingLaws, RemovalLaws}
 use Rattle.genie_outputs.specs.OutputLaws.{OutputLaws}
 use Rattle.genie_outputs.proofs.Answered.{IsTold, answered_by, good_by, over, strong_told}
 use Rattle.genie_outputs.proofs.Lent.{IsShut, lent_begins}
@@ -138,6 +139,18 @@ removed_gone gone p r mid final x s = record {
   state = λ slots rests sents paged. gone.state p r mid final (over (seen mid.memory slots) rests sents) (over (seen final.memory slots) rests sents) x s (gone.shows p r mid final slots rests sents x s paged);
 }
 
+-- and of one that was hidden
+pub hidden_gone : RemovalLaws → HidingLaws → (p : ℕ) (r : Region) (mid final : Kernel) → HidesRegion p r mid final → IsSettled mid → IsGone r mid final
+hidden_gone gone hiding p r mid final x s = record {
+  settled = hiding.settles p r mid final x s;
+  kept = hiding.keeps p r mid final x s;
+  config = ap (λ (z : Kernel). z.config) x.left;
+  transfers = ap (λ (z : Kernel). z.transfers) x.left;
+  pools = ap (λ (z : Kernel). z.pools) x.left;
+  outlined = hiding.state p r mid final (no_bytes mid.config.page) (no_bytes mid.config.page) x s (gone.outlines r mid);
+  state = λ slots rests sents paged. hiding.state p r mid final (over (seen mid.memory slots) rests sents) (over (seen final.memory slots) rests sents) x s (hiding.shows p r mid final slots rests sents x s paged);
+}
+
 owner_on : (a b c : Owner) → KeepsOwner a b → KeepsOwner b c → KeepsOwner a c
 owner_on a b c x y = record {
   owner = ⊎_elim (λ same. ⊎_elim (λ was. inl (same ∙ was)) (λ left. inr (same ∙ left)) x.owner) (λ left. inr left) y.owner;
@@ -212,3 +225,6 @@ module _ (laws : OutputLaws) (removal : RemovalLaws) (k : Kernel) (m : Memory) (
 
   pub removed_out : (before final : Kernel) → before ≡ with_output k m c r plan → RemovesRegion c.pid r before final → IfSome v.slots (HasPages v) → IfSome w.slots (HasPages w) → CanSend m.frames plan.loans.items plan.first plan.len → SendsRange k.memory m v range plan.loans.items plan.first plan.len → IsSized m w → w.faults ≡ v.faults → IsAnswered k c final v w (reply.Id k.next)
   removed_out before final is gone = gone_out final (removed_gone removal c.pid r (with_output k m c r plan) final (subst (λ z. RemovesRegion c.pid r z final) is gone) moved_settled)
+
+  pub hidden_out : HidingLaws → (before final : Kernel) → before ≡ with_output k m c r plan → HidesRegion c.pid r before final → IfSome v.slots (HasPages v) → IfSome w.slots (HasPages w) → CanSend m.frames plan.loans.items plan.first plan.len → SendsRange k.memory m v range plan.loans.items plan.first plan.len → IsSized m w → w.faults ≡ v.faults → IsAnswered k c final v w (reply.Id k.next)
+  hidden_out hiding before final is gone = gone_out final (hidden_gone removal hiding c.pid r (with_output k m c r plan) final (subst (λ z. HidesRegion c.pid r z final) is gone) moved_settled)

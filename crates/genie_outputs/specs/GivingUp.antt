@@ -1,4 +1,5 @@
 -- What an output call stands on that gives its buffer up.
+use Rattle.genie_changes.specs.Hiding.{HidingSettles, HidingKeeps, HidingShows, HidingState}
 use Rattle.genie_changes.specs.MovingOut.{MovedOutHasParts, MovedOutState}
 use Rattle.genie_changes.specs.Removal.{RemovalSettles, RemovalKeeps, RemovalShows, OutlinesShowRemoval, RemovalState}
 use Rattle.genie_changes.specs.Removing.{GoodIsOnlyIn, GoodTransfersRise}
@@ -22,3 +23,10 @@ pub record RemovalLaws : Type 0 where
   pub shows : RemovalShows
   pub outlines : OutlinesShowRemoval
   pub state : RemovalState
+
+-- and one that is hidden
+pub record HidingLaws : Type 0 where
+  pub settles : HidingSettles
+  pub keeps : HidingKeeps
+  pub shows : HidingShows
+  pub state : HidingState

@@ -1,11 +1,12 @@
 //! What an output call stands on.
-ghost use Rattle.genie_outputs.specs.GivingUp.{MovingLaws, RemovalLaws};
+ghost use Rattle.genie_outputs.specs.GivingUp.{HidingLaws, MovingLaws, RemovalLaws};
 ghost use Rattle.genie_outputs.specs.OutputLaws.{OutputLaws};
 
 use genie_changes::beginning::{
     new_ones_wait, parts_make_good, transfers_begin, weak_transfers_begin,
 };
 use genie_changes::given::{numbers_differ, regions_fit};
+use genie_changes::hiding::hidden_regions;
 use genie_changes::making::{memory_moves, moves_join};
 use genie_changes::moving_out::regions_move_out;
 use genie_changes::removal::removed_regions;
@@ -48,4 +49,11 @@ pub(crate) fn removal_laws()
     numbers_differ();
     good_kernels_are_settled();
     removed_regions();
+}
+
+// What a region leaves that is hidden.
+pub(crate) fn hiding_laws()
+    ensures { HidingLaws }
+{
+    hidden_regions();
 }

@@ -1,8 +1,10 @@
 -- The objects of regions, copied one after another.
-use Rattle.std.proofs.Common.{◌≡◌, ◌≢◌, ℕ, ◌+◌, ◌-◌, ◌*◌, ◌<◌, ◌≤◌, ◌^◌, zero, suc, true, false, List, [], ◌∷◌, refl, arith, ap, length, get_or, sym, ◌∙◌, subst, ⊎_elim, eq-eqb, eqb-true}
-use Rattle.std.specs.Prelude.{◌==◌, ◌||◌, Some, None, find, slice_get}
+use Rattle.std.proofs.Common.{◌≡◌, ◌≢◌, ℕ, take, ◌++◌, ◌+◌, ◌-◌, ◌*◌, ◌<◌, ◌≤◌, ◌^◌, zero, suc, true, false, List, [], ◌∷◌, refl, arith, ap, length, get_or, sym, ◌∙◌, subst, ⊎_elim, eq-eqb, eqb-true}
+use Rattle.std.specs.Prelude.{◌==◌, ◌||◌, Option, Some, None, find, slice_get, sum_by}
 use Rattle.std.specs.List.{AllPairs, list_any}
 use Rattle.std.proofs.lemmas.Bool.{cases_Bool, cases_eq, or_parts}
+use Rattle.std.proofs.lemmas.List.{take_more}
+use Rattle.std.proofs.lemmas.List.Sums.{sum_by-append, sum_by-cons}
 use Rattle.genie_frame.specs.declared.frame.Meters.{Meters}
 use Rattle.genie_store.specs.StoreView.{StoreView}
 use Rattle.genie_object.specs.declared.memory.Memory.{Memory}
@@ -16,10 +18,10 @@ use Rattle.genie_region.specs.declared.region.Region.{Region}
 use Rattle.genie_region.specs.Layouts.{starts_at}
 use Rattle.genie_hiding.specs.declared.hidden.Hidden.{Hidden}
 use Rattle.genie_hiding.specs.Hidden.{is_among, objects_of}
-use Rattle.genie_sharing.specs.Copying.{Copies, CopiesObject}
-use Rattle.genie_sharing.specs.Regions.{AreCopies, CopiesRegions, IsCopyOf, ShowsRegion, has_object, is_copied}
+use Rattle.genie_sharing.specs.Copying.{Copies, CopiesObject, copies_work}
+use Rattle.genie_sharing.specs.Regions.{AreCopies, CopiesRegions, IsCopyOf, ShowsRegion, has_object, is_copied, region_work}
 use Rattle.genie_sharing.specs.Lemmas.Composing.{copies_more, copies_none, copies_on}
-use Rattle.genie_sharing.proofs.Looping.{other_object, unheld_kept}
+use Rattle.genie_sharing.proofs.Looping.{other_object, unheld_kept, work_kept, works_most}
 
 -- the first n copies show their regions, and the rest are empty
 pub record AreCopying (was is : List Hidden) (regions copies : List Region) (n : ℕ) (old new : Memory) (v w : StoreView) : Type 0 where
@@ -28,7 +30,8 @@ pub record AreCopying (was is : List Hidden) (regions copies : List Region) (n :
   pub rest : (j i : ℕ) (d : Region) → n ≤ j → j < length copies → IsEmpty new (get_or copies j d).object.0 i
   pub cache : is ≡ was
   pub steady : w.faults ≡ v.faults
-  pub meters : Spends (2 ^ 18 * n) 0 (2 ^ 19 * n) (64 * n) old.frames.meters new.frames.meters
+  pub meters : Spends (sum_by (region_work old regions) (take n copies)) 0 (2 ^ 19 * n) (64 * n) old.frames.meters new.frames.meters
+  pub most : sum_by (region_work old regions) (take n copies) ≤ 2 ^ 18 * n
 
 pub copying_none : (was : List Hidden) (regions copies : List Region) (m : Memory) (v : StoreView) → IsSound m → IsSized m v → FitsHidden m (objects_of was) → AreCopies m (objects_of was) regions copies → AreCopying was was regions copies 0 m m v v
 copying_none was regions copies m v sound sized fits are = record {
@@ -38,12 +41,34 @@ copying_none was regions copies m v sound sized fits are = record {
   cache = refl;
   steady = refl;
   meters = spends_none 0 0 0 0 m.frames.meters;
+  most = omega arith;
 }
 
 pub got_at : (xs : List Region) (i : ℕ) (x d : Region) → slice_get xs i ≡ Some x → (i < length xs) × (get_or xs i d ≡ x)
 got_at [] i x d e = absurd (cc)
 got_at (y ∷ xs) zero x d e = (omega arith, cc)
 got_at (y ∷ xs) (suc i) x d e = let later = got_at xs i x d e in (omega (arith, later.0), later.1)
+
+sum_joined : (g : Region → ℕ) (xs ys : List Region) → sum_by g (xs ++ ys) ≡ sum_by g xs + sum_by g ys
+sum_joined g xs ys = sum_by-append g xs ys
+
+sum_next : (g : Region → ℕ) (xs : List Region) (i : ℕ) (x : Region) → slice_get xs i ≡ Some x → sum_by g (take (i + 1) xs) ≡ sum_by g (take i xs) + g x
+sum_next g xs i x at =
+    let got = got_at xs i x x at in
+    let one : sum_by g (get_or xs i x ∷ []) ≡ g x = (let c = sum_by-cons g (get_or xs i x) [] in omega (arith, c, ap g got.1)) in
+    omega (arith, ap (sum_by g) (take_more xs i x got.0), sum_joined g (take i xs) (get_or xs i x ∷ []), one)
+
+-- as much as all pages at most
+region_most : (m : Memory) (regions : List Region) (c r : Region) → m.frames.page ≤ 4096 → find (starts_at c.start) regions ≡ Some r → length (object_at m.objects r.object.0) ≤ 64 → region_work m regions c ≤ 2 ^ 18
+region_most m regions c r small found long =
+    let is = ap (λ (o : Option Region). elim o as (λ _. ℕ) [ None ↦ 0 | Some q ↦ copies_work m q.object.0 (length (object_at m.objects q.object.0)) ]) found in
+    let most = works_most m r.object.0 (length (object_at m.objects r.object.0)) small in
+    omega (arith, is, most, long)
+
+sum_take : (g : Region → ℕ) (n : ℕ) (xs : List Region) → sum_by g (take n xs) ≤ sum_by g xs
+sum_take g zero xs = omega arith
+sum_take g (suc n) [] = omega arith
+sum_take g (suc n) (x ∷ xs) = let rest = sum_take g n xs in omega (arith, rest, sum_by-cons g x xs, sum_by-cons g x (take n xs))
 
 -- a copy's entries are among those of the copies
 among : (copies : List Region) (j : ℕ) (d : Region) → j < length copies → list_any (has_object (get_or copies j d).object.0) copies ≡ true
@@ -111,15 +136,33 @@ module _ (was is now : List Hidden) (regions copies : List Region) (n : ℕ) (ol
       (λ other. other)
       (cases_Bool (is_object c.object.0 a b))
 
+  kept_page : (i : ℕ) → (entry_at mid.objects r.object.0 i).page ≡ (entry_at old.objects r.object.0 i).page
+  kept_page i = x.entries.pages r.object.0 i source_owned source_apart
+
+  works_less : (n : ℕ) → copies_work mid r.object.0 n ≤ copies_work old r.object.0 n
+  works_less zero = omega arith
+  works_less (suc j) = let rest = works_less j in let first = work_kept old mid r.object.0 j sound x.entries.sound x.entries.keeps x.entries.counts (kept_page j) in omega (arith, rest, first)
+
+  work_c : copies_work mid r.object.0 (length (object_at mid.objects r.object.0)) ≤ region_work old regions c
+  work_c =
+      let size = x.entries.keeps.entries r.object.0 in
+      let is = ap (λ (o : Option Region). elim o as (λ _. ℕ) [ None ↦ 0 | Some q ↦ copies_work old q.object.0 (length (object_at old.objects q.object.0)) ]) found in
+      let same = ap (copies_work mid r.object.0) size in
+      omega (arith, works_less (length (object_at old.objects r.object.0)), is, same)
+
+  pub meters_more : Spends (copies_work mid r.object.0 (length (object_at mid.objects r.object.0))) 0 (2 ^ 19) 64 mid.frames.meters new.frames.meters → Spends (sum_by (region_work old regions) (take (n + 1) copies)) 0 (2 ^ 19 * (n + 1)) (64 * (n + 1)) old.frames.meters new.frames.meters
+  meters_more spent =
+      let w : ℕ = copies_work mid r.object.0 (length (object_at mid.objects r.object.0)) in
+      let before : ℕ = sum_by (region_work old regions) (take n copies) in
+      let next : sum_by (region_work old regions) (take (n + 1) copies) ≡ before + region_work old regions c = sum_next (region_work old regions) copies n c at in
+      spends_more (before + w) (0 + 0) (2 ^ 19 * n + 2 ^ 19) (64 * n + 64) (sum_by (region_work old regions) (take (n + 1) copies)) 0 (2 ^ 19 * (n + 1)) (64 * (n + 1)) old.frames.meters new.frames.meters (spends_on before 0 (2 ^ 19 * n) (64 * n) w 0 (2 ^ 19) 64 old.frames.meters mid.frames.meters new.frames.meters x.meters spent) (omega (arith, next, work_c)) (omega arith) (omega arith) (omega arith)
+
   module _ (y : CopiesObject (objects_of is) r.object.0 c.object.0 mid new v w) where
     one : CopiesObject hidden r.object.0 c.object.0 mid new v w
     one = subst (λ (h : List Hidden). CopiesObject (objects_of h) r.object.0 c.object.0 mid new v w) x.cache y
 
     abbrev both : Copies hidden (is_copied copies) old new u w
     both = copies_on hidden (is_copied copies) old mid new u v w x.entries (copies_more hidden (is_object c.object.0) (is_copied copies) mid new v w inside one.copies)
-
-    kept_page : (i : ℕ) → (entry_at mid.objects r.object.0 i).page ≡ (entry_at old.objects r.object.0 i).page
-    kept_page i = x.entries.pages r.object.0 i source_owned source_apart
 
     shows_c : ShowsRegion old new both.source regions c
     shows_c = record {
@@ -155,8 +198,8 @@ module _ (was is now : List Hidden) (regions copies : List Region) (n : ℕ) (ol
           same = λ q i f m free. one.copies.pages (get_or copies j d).object.0 i (owned_copy j d l) (object_other j d i other l) ∙ was.same q i f m free;
         }
 
-    pub copying_more : now ≡ is → w.faults ≡ v.faults → Spends (2 ^ 18) 0 (2 ^ 19) 64 mid.frames.meters new.frames.meters → AreCopying was now regions copies (n + 1) old new u w
-    copying_more cached faults spent = record {
+    pub copying_more : old.frames.page ≤ 4096 → length (object_at mid.objects r.object.0) ≤ 64 → now ≡ is → w.faults ≡ v.faults → Spends (copies_work mid r.object.0 (length (object_at mid.objects r.object.0))) 0 (2 ^ 19) 64 mid.frames.meters new.frames.meters → AreCopying was now regions copies (n + 1) old new u w
+    copying_more small long cached faults spent = record {
       entries = both;
       done = λ j d below l. ⊎_elim
           (λ (here : j ≡ n). subst (ShowsRegion old new both.source regions) (sym (got_at copies n c d at).1 ∙ ap (λ k. get_or copies k d) (sym here)) shows_c)
@@ -167,7 +210,8 @@ module _ (was is now : List Hidden) (regions copies : List Region) (n : ℕ) (ol
           one.copies.pages (get_or copies j d).object.0 i (owned_copy j d l) (object_other j d i other l) ∙ x.rest j i d (omega (arith, past)) l;
       cache = cached ∙ x.cache;
       steady = faults ∙ x.steady;
-      meters = spends_more (2 ^ 18 * n + 2 ^ 18) (0 + 0) (2 ^ 19 * n + 2 ^ 19) (64 * n + 64) (2 ^ 18 * (n + 1)) 0 (2 ^ 19 * (n + 1)) (64 * (n + 1)) old.frames.meters new.frames.meters (spends_on (2 ^ 18 * n) 0 (2 ^ 19 * n) (64 * n) (2 ^ 18) 0 (2 ^ 19) 64 old.frames.meters mid.frames.meters new.frames.meters x.meters spent) (omega arith) (omega arith) (omega arith) (omega arith);
+      meters = meters_more spent;
+      most = (let next : sum_by (region_work old regions) (take (n + 1) copies) ≡ sum_by (region_work old regions) (take n copies) + region_work old regions c = sum_next (region_work old regions) copies n c at in let l = x.most in omega (arith, next, l, region_most old regions c r small found (omega (arith, long, x.entries.keeps.entries r.object.0))));
     }
 
   pub copying_failed : Copies (objects_of is) (is_object c.object.0) mid new v w → Copies (objects_of was) (is_copied copies) old new u w
@@ -183,12 +227,14 @@ copies_found regions copies n c m hidden are at none =
     let bad : Some of_c.region ≡ None = sym of_c.found ∙ none in cc
 
 -- what the next copy asks for
-pub below_next : (n : ℕ) (old new : Meters) → n < 32 → AreBelow (2 ^ 63) old → Spends (2 ^ 18 * n) 0 (2 ^ 19 * n) (64 * n) old new → AreBelow (2 ^ 64 - 2 ^ 22) new
-below_next n old new l b s = below_more (2 ^ 63 + 2 ^ 18 * n + 0 + 2 ^ 19 * n + 64 * n) (2 ^ 64 - 2 ^ 22) new (omega (arith, l)) (below_spent (2 ^ 63) (2 ^ 18 * n) 0 (2 ^ 19 * n) (64 * n) old new b s)
+pub below_next : (n works : ℕ) (old new : Meters) → n < 32 → AreBelow (2 ^ 63) old → works ≤ 2 ^ 18 * n → Spends works 0 (2 ^ 19 * n) (64 * n) old new → AreBelow (2 ^ 64 - 2 ^ 22) new
+below_next n works old new l b most s = below_more (2 ^ 63 + works + 0 + 2 ^ 19 * n + 64 * n) (2 ^ 64 - 2 ^ 22) new (omega (arith, l, most)) (below_spent (2 ^ 63) works 0 (2 ^ 19 * n) (64 * n) old new b s)
 
 -- all copies show their regions
 pub copied_all : (was is : List Hidden) (regions copies : List Region) (n : ℕ) (old new : Memory) (v w : StoreView) → length copies ≤ n → AreCopying was is regions copies n old new v w → CopiesRegions (objects_of was) regions copies old new v w
 copied_all was is regions copies n old new v w all x = record { entries = x.entries; each = λ j d l. x.done j d (omega (arith, l, all)) l }
 
-pub spent_all : (n : ℕ) (old new : Meters) → n ≤ 32 → Spends (2 ^ 18 * n) 0 (2 ^ 19 * n) (64 * n) old new → Spends (2 ^ 23) 0 (2 ^ 24) (2 ^ 11) old new
-spent_all n old new l s = spends_more (2 ^ 18 * n) 0 (2 ^ 19 * n) (64 * n) (2 ^ 23) 0 (2 ^ 24) (2 ^ 11) old new s (omega (arith, l)) (omega arith) (omega (arith, l)) (omega (arith, l))
+pub spent_all : (n : ℕ) (m : Memory) (regions copies : List Region) (new : Meters) → n ≤ 32 → Spends (sum_by (region_work m regions) (take n copies)) 0 (2 ^ 19 * n) (64 * n) m.frames.meters new → Spends (sum_by (region_work m regions) copies) 0 (2 ^ 24) (2 ^ 11) m.frames.meters new
+spent_all n m regions copies new l s =
+    let works : ℕ = sum_by (region_work m regions) copies in
+    spends_more (sum_by (region_work m regions) (take n copies)) 0 (2 ^ 19 * n) (64 * n) works 0 (2 ^ 24) (2 ^ 11) m.frames.meters new s (sum_take (region_work m regions) n copies) (omega arith) (omega (arith, l)) (omega (arith, l))

@@ -1,7 +1,11 @@
 -- What is left once entries were copied to other ones.
-use Rattle.std.specs.Prelude.{◌≡◌, ℕ, ◌+◌, ◌-◌, ◌<◌, ◌≤◌, ◌^◌, Bool, true, false, not, List, length, count_by}
+use Rattle.std.specs.Prelude.{zero, suc, slice_index_or, if◌then◌else◌, ◌≡◌, ℕ, ◌+◌, ◌-◌, ◌<◌, ◌≤◌, ◌^◌, Bool, true, false, not, List, length, count_by}
 use Rattle.std.specs.Option.{option_map}
-use Rattle.genie_frame.specs.FrameTable.{owner_at, bytes_at, is_free}
+use Rattle.genie_frame.specs.declared.frame.Counts.{Counts}
+use Rattle.genie_object.specs.declared.pages.Place.{Place}
+use Rattle.genie_object.specs.declared.pages.Place.TheVariants.{Zero, Frame, Slot}
+use Rattle.genie_object.specs.Costs.{place_of}
+use Rattle.genie_frame.specs.FrameTable.{is_held, no_counts, owner_at, bytes_at, is_free}
 use Rattle.genie_frame.specs.declared.frame.FrameId.{FrameId}
 use Rattle.genie_frame.specs.declared.frame.Owner.TheVariants.{Free}
 use Rattle.genie_store.specs.StoreView.{StoreView}
@@ -68,3 +72,18 @@ pub record CopiesObject (hidden : List ℕ) (source o : ℕ) (old new : Memory) 
   pub copies : Copies hidden (is_object o) old new v w
   pub from : (i : ℕ) → i < length (object_at old.objects source) → copies.source o i ≡ source
   pub same : (i : ℕ) → i < length (object_at old.objects source) → IsUnheld old source i → (entry_at new.objects o i).page ≡ (entry_at old.objects source i).page
+
+-- whether a device holds a page at this place
+abbrev pub is_held_in : List Counts → Place → Bool
+is_held_in counts Zero = false
+is_held_in counts (Frame f) = is_held (slice_index_or counts f.0 no_counts)
+is_held_in counts (Slot s) = false
+
+-- the bytes that are moved to copy an entry: a page where a device holds its own, and else none
+abbrev pub copy_work : Memory → ℕ → ℕ → ℕ
+copy_work m o i = if is_held_in m.frames.counts (place_of m o i) then m.frames.page else 0
+
+-- and to copy the first n entries of an object
+abbrev pub copies_work : Memory → ℕ → ℕ → ℕ
+copies_work m o zero = 0
+copies_work m o (suc n) = copies_work m o n + copy_work m o n

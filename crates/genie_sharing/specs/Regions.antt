@@ -1,5 +1,5 @@
 -- Regions that are copies of others, with objects of their own.
-use Rattle.std.specs.Prelude.{◌≡◌, ◌≢◌, ℕ, ◌<◌, Bool, false, ◌==◌, List, [], length, find, All, Some}
+use Rattle.std.specs.Prelude.{◌≡◌, ◌≢◌, ℕ, ◌<◌, Bool, false, ◌==◌, List, [], length, find, All, None, Some}
 use Rattle.std.specs.List.{AllPairs, list_any}
 use Rattle.genie_store.specs.StoreView.{StoreView}
 use Rattle.genie_object.specs.declared.memory.Memory.{Memory}
@@ -8,7 +8,7 @@ use Rattle.genie_object.specs.Objects.{entry_at, object_at}
 use Rattle.genie_region.specs.declared.region.Region.{Region}
 use Rattle.genie_region.specs.Layouts.{starts_at}
 use Rattle.genie_hiding.specs.Hidden.{is_among}
-use Rattle.genie_sharing.specs.Copying.{Copies}
+use Rattle.genie_sharing.specs.Copying.{Copies, copies_work}
 
 -- an entry of one of these regions' objects
 abbrev pub has_object : ℕ → Region → Bool
@@ -42,3 +42,7 @@ pub record ShowsRegion (old new : Memory) (source : ℕ → ℕ → ℕ) (region
 pub record CopiesRegions (hidden : List ℕ) (regions copies : List Region) (old new : Memory) (v w : StoreView) : Type 0 where
   pub entries : Copies hidden (is_copied copies) old new v w
   pub each : All (ShowsRegion old new entries.source regions) copies
+
+-- the bytes that are moved to copy the region that starts where this one starts
+abbrev pub region_work : Memory → List Region → Region → ℕ
+region_work m regions c = elim (find (starts_at c.start) regions) [ None ↦ 0 | Some r ↦ copies_work m r.object.0 (length (object_at m.objects r.object.0)) ]

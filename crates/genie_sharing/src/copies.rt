@@ -7,7 +7,7 @@ ghost use Rattle.genie_object.specs.Leaving.{IsEmpty, is_object};
 ghost use Rattle.genie_object.specs.Objects.{object_at};
 ghost use Rattle.genie_object.specs.Sound.{FitsHidden, IsSized, IsSound};
 ghost use Rattle.genie_object.specs.Touching.{is_entry};
-ghost use Rattle.genie_sharing.specs.Copying.{Copies, CopiesEntry, CopiesObject, StaysRoomy};
+ghost use Rattle.genie_sharing.specs.Copying.{Copies, CopiesEntry, CopiesObject, StaysRoomy, copies_work, copy_work};
 
 use crate::entries::{held_frame, part_page, share_page};
 use genie_hiding::HiddenCache;
@@ -44,7 +44,7 @@ pub fn copy_entry<S: Store>(
     ensures failed { OnErr result (Copies (objects_of hidden.old) (is_entry to.0 index) memory.old memory.new (S.view store.old) (S.view store.new)) }
     ensures hidden { hidden.new ≡ hidden.old }
     ensures cause { HasCause (S.view store.old).faults (S.view store.new).faults result }
-    ensures meters { Spends memory.old.frames.page 0 8192 1 memory.old.frames.meters memory.new.frames.meters }
+    ensures meters { Spends (copy_work memory.old from.0 index) 0 8192 1 memory.old.frames.meters memory.new.frames.meters }
 {
     let source = EntryRef {
         object: from,
@@ -96,7 +96,8 @@ pub fn copy_object<S: Store>(
     ensures failed { OnErr result (Copies (objects_of hidden.old) (is_object to.0) memory.old memory.new (S.view store.old) (S.view store.new)) }
     ensures hidden { hidden.new ≡ hidden.old }
     ensures cause { HasCause (S.view store.old).faults (S.view store.new).faults result }
-    ensures meters { Spends (2 ^ 18) 0 (2 ^ 19) 64 memory.old.frames.meters memory.new.frames.meters }
+    ensures few { length (object_at memory.old.objects from.0) ≤ 64 }
+    ensures meters { Spends (copies_work memory.old from.0 (length (object_at memory.old.objects from.0))) 0 (2 ^ 19) 64 memory.old.frames.meters memory.new.frames.meters }
 {
     let pages = memory.objects.pages(from);
     'entries: for index in 0..pages {

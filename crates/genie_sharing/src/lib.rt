@@ -6,4 +6,4 @@ pub mod entries;
 pub mod regions;
 
 pub use crate::copies::{copy_entry, copy_object};
-pub use crate::regions::copy_regions;
+pub use crate::regions::{copy_regions, drop_objects};

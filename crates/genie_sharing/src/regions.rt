@@ -1,5 +1,5 @@
 //! The objects of regions that are copied.
-ghost use Rattle.std.specs.Prelude.{◌≡◌, ◌≢◌, ◌+◌, ◌≤◌, ◌^◌, [], All, OnErr, OnOk};
+ghost use Rattle.std.specs.Prelude.{◌≡◌, ◌≢◌, ◌+◌, ◌≤◌, ◌^◌, [], All, OnErr, OnOk, sum_by};
 ghost use Rattle.std.specs.List.{AllPairs, list_any};
 ghost use Rattle.genie_base.specs.Causes.{HasCause};
 ghost use Rattle.genie_hiding.specs.Discarding.{Discards};
@@ -8,7 +8,7 @@ ghost use Rattle.genie_object.specs.Costs.{AreBelow, Spends};
 ghost use Rattle.genie_object.specs.Objects.{object_at};
 ghost use Rattle.genie_object.specs.Sound.{FitsHidden, IsSized, IsSound};
 ghost use Rattle.genie_sharing.specs.Copying.{Copies, StaysRoomy};
-ghost use Rattle.genie_sharing.specs.Regions.{AreCopies, CopiesRegions, has_object, is_copied};
+ghost use Rattle.genie_sharing.specs.Regions.{AreCopies, CopiesRegions, has_object, is_copied, region_work};
 
 use crate::copies::copy_object;
 use genie_fault::remove_object;
@@ -39,7 +39,7 @@ pub fn copy_regions<S: Store>(
     ensures failed { OnErr result (Copies (objects_of hidden.old) (is_copied copies.now) memory.old memory.new (S.view store.old) (S.view store.new)) }
     ensures hidden { hidden.new ≡ hidden.old }
     ensures cause { HasCause (S.view store.old).faults (S.view store.new).faults result }
-    ensures meters { Spends (2 ^ 23) 0 (2 ^ 24) (2 ^ 11) memory.old.frames.meters memory.new.frames.meters }
+    ensures meters { Spends (sum_by (region_work memory.old regions.now) copies.now) 0 (2 ^ 24) (2 ^ 11) memory.old.frames.meters memory.new.frames.meters }
 {
     'copies: for i in 0..copies.len() {
         let copy = copies.at(i);

@@ -1,8 +1,9 @@
 -- The regions of a child, made one after another.
 use Rattle.std.proofs.Common.{◌≡◌, ◌≢◌, ℕ, ◌+◌, ◌<◌, ◌≤◌, zero, suc, Bool, true, false, not, cond, List, [], ◌∷◌, ◌++◌, refl, sym, ap, ap₂, subst, arith, rules, ◌∙◌, map, length, filter, find, take, set, get_or, get_or-set_other, get_or-set_same, length-set, replicate, inl, inr, ⊎_elim, eq-eqb, eqb-true}
-use Rattle.std.specs.Prelude.{Option, Some, None, is_some, nat_lt, ◌==◌, ◌||◌, ◌&&◌, count_by, flat_map, slice_get, unwrap_or}
+use Rattle.std.specs.Prelude.{Option, Some, None, is_some, nat_lt, ◌==◌, ◌||◌, ◌&&◌, count_by, flat_map, slice_get, unwrap_or, sum_by, nat_le}
 use Rattle.std.specs.List.{AllPairs, list_any, range_with_len}
 use Rattle.std.proofs.lemmas.Bool.{cases_Bool, cond_both, not-false, or_parts}
+use Rattle.std.proofs.lemmas.List.Sums.{sum_by-append, sum_by-cons}
 use Rattle.std.proofs.lemmas.List.{set-set, take_more}
 use Rattle.genie_base.specs.Regions.{AreInOrder, is_accessible, is_free}
 use Rattle.genie_base.specs.declared.event.Event.TheVariants.{Fork}
@@ -39,7 +40,7 @@ use Rattle.genie_kernel.specs.Lemmas.Processes.{alive_view, processes_set, owned
 use Rattle.genie_changes.specs.Removing.{FitsTables, GoodRegionsFit}
 use Rattle.genie_changes.specs.Regions.{FindsNamed, MakesObject, with_added}
 use Rattle.genie_room.specs.Places.{ObjectsSuffice}
-use Rattle.genie_spaces.specs.Forking.{AddsCopy, HasCopies, IsSource, ShowsSource, copy_region, is_forked, with_child, with_entries}
+use Rattle.genie_spaces.specs.Forking.{AddsCopy, HasCopies, source_work, IsSource, ShowsSource, copy_region, is_forked, with_child, with_entries}
 use Rattle.genie_spaces.specs.RegionLaws.{RegionLaws}
 use Rattle.genie_spaces.proofs.Beside.{any_added, free_behind, fresh_new, from_added, inside, length_added, to_added}
 use Rattle.genie_spaces.proofs.Keeping.{keeps_bytes}
@@ -86,6 +87,11 @@ may_fork fit k p child good accepted unhidden ordered =
       some = λ r h. all_has (λ (x : Region). 0 < x.pages) (all_regions k.spaces.processes k.hidden) good.backed.some r (has_left r (owned_regions k.spaces.processes) (map hidden_region k.hidden) (has_owned k.spaces.processes p (spaces.regions_of p k.spaces) r there h));
       most = λ r h. (all_has FitsTables (owned_regions k.spaces.processes) (fit k good) r (has_owned k.spaces.processes p (spaces.regions_of p k.spaces) r there h)).most;
     }
+
+sum_added : (g : Region → ℕ) (c : Region) (cs : List Region) → sum_by g (with_added c cs) ≡ g c + sum_by g cs
+sum_added g c [] = sum_by-cons g c []
+sum_added g c (x ∷ cs) = let rest = sum_added g c cs in cond_both (nat_le (x.start + x.pages) c.start) (x ∷ with_added c cs) (c ∷ x ∷ cs) (λ l. sum_by g l ≡ g c + sum_by g (x ∷ cs))
+    (λ t. omega (arith, rest, sum_by-cons g x (with_added c cs), sum_by-cons g x cs)) (λ f. sum_by-cons g c (x ∷ cs))
 
 -- copies joined
 copies_joined : (s : flat.State) (q : ℕ) (xs : List flat.Region) (r : flat.Region) → add_copies s q (xs ++ r ∷ []) ≡ space.add_region (add_copies s q xs) q (copy_of (add_copies s q xs) r)
@@ -172,6 +178,7 @@ module _ (laws : RegionLaws) (k : Kernel) (p child : ℕ) (rs : List Region) (ma
         named = λ n e. (λ j. Rattle.std.specs.Option.option_map Rattle.genie_changes.specs.Regions.object_in (find (has_id n) (same j)));
         ends = λ c j d h. absurd h;
         sources = λ c h. absurd h;
+        works = λ f. omega arith;
         state = λ b h. spawned_view k b child queue_place may.free;
       }
 
@@ -195,6 +202,7 @@ module _ (laws : RegionLaws) (k : Kernel) (p child : ℕ) (rs : List Region) (ma
           named = x.named;
           ends = λ c j d h l m. x.ends c j d h (omega (arith, l)) m;
           sources = x.sources;
+          works = λ f. subst (λ l. sum_by (source_work f rs) cs ≤ sum_by f l) (sym same) (x.works f);
           state = λ b h. x.state b h ∙ ap (λ l. add_copies (spawned (state_of k b) child) child (map (region_view b.seen.entry_bytes) l)) (sym same);
         }
 
@@ -308,6 +316,13 @@ module _ (laws : RegionLaws) (k : Kernel) (p child : ℕ) (rs : List Region) (ma
       sources_more : (z : Region) → Has z added → IsSource rs z
       sources_more z m = ⊎_elim (λ (e : c ≡ z). subst (IsSource rs) e (record { region = r; found = found; pages = refl })) (x.sources z) (from_added z c cs m)
 
+      works_more : (f : Region → ℕ) → sum_by (source_work f rs) added ≤ sum_by f (filter is_forked (take (n + 1) rs))
+      works_more f =
+          let here : source_work f rs c ≡ f r = ap (λ (o : Option Region). elim o as (λ _. ℕ) [ None ↦ 0 | Some q ↦ f q ]) found in
+          let joined = ap (sum_by f) (forked_next rs n r true at shared) ∙ sum_by-append f (filter is_forked (take n rs)) (r ∷ []) in
+          let last = sum_by-cons f r [] in
+          omega (arith, sum_added (source_work f rs) c cs, here, joined, last, x.works f)
+
       at_most : (b : Bool) → num b ≤ 1
       at_most true = omega arith
       at_most false = omega arith
@@ -331,6 +346,7 @@ module _ (laws : RegionLaws) (k : Kernel) (p child : ℕ) (rs : List Region) (ma
         named = λ m e. (λ j. Rattle.std.specs.Option.option_map Rattle.genie_changes.specs.Regions.object_in (find (has_id m) (owned_regions (sym set_twice j)))) ∙ laws.finds_more k.transfers (set ps child (Some cs)) child c cs set_here unnamed m e ∙ x.named m e;
         ends = ends_more;
         sources = sources_more;
+        works = works_more;
         state = state_more;
       }
 

@@ -1,25 +1,34 @@
 -- How a fork ends.
-use Rattle.std.proofs.Common.{◌≡◌, ◌≢◌, ℕ, ◌<◌, ◌^◌, true, false, List, [], ◌∷◌, refl, sym, ap, subst, arith, ◌∙◌, length, get_or, get_or-set_same, get_or-set_other, ⊎_elim, map}
-use Rattle.std.specs.Prelude.{Option, Some, None, All, find, is_some, unwrap_or, slice_set}
+use Rattle.std.proofs.Common.{◌≡◌, ◌≢◌, Bool, ℕ, ◌<◌, ◌^◌, true, false, List, [], ◌∷◌, refl, sym, ap, subst, arith, ◌∙◌, length, get_or, get_or-set_same, get_or-set_other, ⊎_elim, map, zero, suc, take, filter, inl, inr, ◌≤◌}
+use Rattle.std.specs.Prelude.{Option, Some, None, All, find, is_some, unwrap_or, slice_set, sum_by, if◌then◌else◌}
 use Rattle.std.specs.List.{AllPairs, list_any}
-use Rattle.std.proofs.lemmas.Bool.{cases_Bool}
+use Rattle.std.proofs.lemmas.Bool.{cases_Bool, cond_both}
 use Rattle.genie_base.specs.declared.event.Event.TheVariants.{Fork}
 use Rattle.genie_base.specs.declared.reply.Reply.TheVariants as reply
-use Rattle.genie_frame.specs.FrameTable.{counts_at, is_held}
+use Rattle.genie_frame.specs.FrameTable.{counts_at, is_held, FrameTable}
 use Rattle.genie_hiding.specs.Discarding.{Discards}
 use Rattle.genie_hiding.specs.Hidden.{objects_of}
 use Rattle.genie_host.specs.Host.{HostView}
 use Rattle.genie_object.specs.declared.memory.Memory.{Memory}
 use Rattle.genie_base.specs.declared.config.Config.{Config}
 use Rattle.genie_object.specs.declared.objects.Entry.{Entry}
-use Rattle.genie_object.specs.Costs.{AreBelow}
+use Rattle.genie_object.specs.Costs.{AreBelow, Spends}
 use Rattle.genie_object.specs.Leaving.{IsUnheld}
-use Rattle.genie_object.specs.Objects.{object_at}
+use Rattle.genie_object.specs.Objects.{entry_at, object_at}
 use Rattle.genie_object.specs.Sound.{IsSized, IsSound}
+use Rattle.std.proofs.lemmas.List.{take_all}
+use Rattle.std.proofs.lemmas.List.Sums.{sum_by-cons}
+use Rattle.genie_object.specs.declared.pages.PageId.{PageId}
+use Rattle.genie_object.specs.declared.pages.Place.{Place}
+use Rattle.genie_object.specs.declared.pages.Place.TheVariants.{Zero, Frame, Slot}
+use Rattle.genie_object.specs.Memory.{entry_frame, frame_in, frame_of}
+use Rattle.genie_object.specs.Pages.{page_at}
+use Rattle.genie_object.specs.Lemmas.Relocated.{frame_is}
+use Rattle.genie_object.specs.Lemmas.Spending.{spends_more}
 use Rattle.genie_region.specs.declared.region.Region.{Region}
 use Rattle.genie_region.specs.Layouts.{starts_at}
-use Rattle.genie_sharing.specs.Copying.{Copies}
-use Rattle.genie_sharing.specs.Regions.{CopiesRegions, ShowsRegion, has_object, is_copied}
+use Rattle.genie_sharing.specs.Copying.{Copies, copies_work, copy_work, is_held_in}
+use Rattle.genie_sharing.specs.Regions.{CopiesRegions, ShowsRegion, has_object, is_copied, region_work}
 use Rattle.genie_space.specs.Spaces.{is_alive, regions_of}
 use Rattle.genie_space.specs.Translations.{IsBacked}
 use Rattle.genie_store.specs.StoreView.{StoreView}
@@ -36,15 +45,53 @@ use Rattle.genie_kernel.specs.Steps.{StepsTold}
 use Rattle.genie_kernel.specs.View.{outline, view}
 use Rattle.genie_changes.specs.Removing.{GoodRegionsFit}
 use Rattle.genie_spaces.specs.Clearing.{Clears}
-use Rattle.genie_spaces.specs.Forking.{Begins, CanCopyPages, SharesPages, with_child, with_entries}
+use Rattle.genie_spaces.specs.Forking.{Begins, CanCopyPages, SharesPages, with_child, with_entries, fork_work, is_forked}
 use Rattle.genie_spaces.specs.RegionLaws.{RegionLaws}
 use Rattle.genie_spaces.proofs.Copying.{MayFork, may_fork, parent_alive}
-use Rattle.genie_spaces.proofs.Forked.{good_back, good_now, kept_back, kept_now, sized_back, told_back, told_there}
+use Rattle.genie_spaces.proofs.Forked.{good_back, good_now, kept_back, kept_now, sized_back, told_back, told_there, keeps_back}
 use Rattle.genie_spaces.proofs.Ready.{are_copies, copies_there, good_forked, source_apart, source_there, unhidden as unhidden_region}
 
 -- it isn't refused once hidden regions were dropped
 pub still_accepted : (old k : Kernel) (p child : ℕ) → Clears old k → refuse (outline old) (Fork p child) ≡ None → refuse (outline k) (Fork p child) ≡ None
 still_accepted old k p child c e = subst (λ (n : Kernel). refuse (outline n) (Fork p child) ≡ None) (sym c.only) e
+
+-- what it costs to copy entries that a device holds still
+work_back : (old new : Memory) (o i : ℕ) → new.frames.page ≡ old.frames.page → ((f : ℕ) → entry_frame old o i ≡ Some f → is_held (counts_at old.frames f) ≡ true → (entry_frame new o i ≡ Some f) × (is_held (counts_at new.frames f) ≡ true)) → copy_work old o i ≤ copy_work new o i
+work_back old new o i page stays = by_page (entry_at old.objects o i).page refl where
+  framed_held : (f : ℕ) → (q : Option PageId) → (entry_at new.objects o i).page ≡ q → frame_of new.pages.pages q ≡ Some f → is_held (counts_at new.frames f) ≡ true → is_held_in new.frames.counts (elim q as (λ _. Place) [ None ↦ Zero | Some r ↦ (page_at new.pages.pages r.0).place ]) ≡ true
+  framed_held f None e framed held = absurd (cc)
+  framed_held f (Some r) e framed held = let y = frame_is (page_at new.pages.pages r.0).place f framed in ap (is_held_in new.frames.counts) y.is ∙ ap (λ n. is_held (counts_at new.frames n)) (sym y.number) ∙ held
+
+  by_held : (place : Place) → frame_in place ≡ entry_frame old o i → (if is_held_in old.frames.counts place then old.frames.page else 0) ≤ copy_work new o i
+  by_held Zero e = omega arith
+  by_held (Slot s) e = omega arith
+  by_held (Frame f) e = ⊎_elim
+      (λ (held : is_held (counts_at old.frames f.0) ≡ true).
+      let now = stays f.0 (sym e) held in
+      let is = framed_held f.0 (entry_at new.objects o i).page refl now.0 now.1 in
+      omega (arith, page, ap (λ b. if b then old.frames.page else 0) held, ap (λ b. if b then new.frames.page else 0) is))
+      (λ free. omega (arith, ap (λ b. if b then old.frames.page else 0) free))
+      (cases_Bool (is_held (counts_at old.frames f.0)))
+
+  by_page : (q : Option PageId) → (entry_at old.objects o i).page ≡ q → copy_work old o i ≤ copy_work new o i
+  by_page None e =
+      let none : copy_work old o i ≡ 0 = ap (λ (q : Option PageId). if is_held_in old.frames.counts (elim q as (λ _. Place) [ None ↦ Zero | Some r ↦ (page_at old.pages.pages r.0).place ]) then old.frames.page else 0) e in
+      omega (arith, none)
+  by_page (Some q) e =
+      let is : copy_work old o i ≡ (if is_held_in old.frames.counts (page_at old.pages.pages q.0).place then old.frames.page else 0) = ap (λ (q : Option PageId). if is_held_in old.frames.counts (elim q as (λ _. Place) [ None ↦ Zero | Some r ↦ (page_at old.pages.pages r.0).place ]) then old.frames.page else 0) e in
+      omega (arith, is, by_held (page_at old.pages.pages q.0).place (sym (ap (frame_of old.pages.pages) e)))
+
+works_back : (old new : Memory) (o n : ℕ) → new.frames.page ≡ old.frames.page → ((i f : ℕ) → entry_frame old o i ≡ Some f → is_held (counts_at old.frames f) ≡ true → (entry_frame new o i ≡ Some f) × (is_held (counts_at new.frames f) ≡ true)) → copies_work old o n ≤ copies_work new o n
+works_back old new o zero page stays = omega arith
+works_back old new o (suc n) page stays = let rest = works_back old new o n page stays in let first = work_back old new o n page (stays n) in omega (arith, rest, first)
+
+sum_less : (f g : Region → ℕ) (rs : List Region) → ((r : Region) → Has r rs → f r ≤ g r) → sum_by f rs ≤ sum_by g rs
+sum_less f g [] h = omega arith
+sum_less f g (r ∷ rs) h = let rest = sum_less f g rs (λ q is. h q (inr is)) in let first = h r (inl refl) in omega (arith, rest, first, sum_by-cons f r rs, sum_by-cons g r rs)
+
+from_filter : (q : Region → Bool) (r : Region) (rs : List Region) → Has r (filter q rs) → Has r rs
+from_filter q r [] h = h
+from_filter q r (x ∷ rs) h = cond_both (q x) (x ∷ filter q rs) (filter q rs) (λ l. Has r l → Has r (x ∷ rs)) (λ t g. ⊎_elim inl (λ later. inr (from_filter q r rs later)) g) (λ f g. inr (from_filter q r rs g)) h
 
 module _ (laws : RegionLaws) (fit : GoodRegionsFit) (old mid : Kernel) (p child : ℕ) (cs : List Region) (start : IsGood old) (accepted : refuse (outline old) (Fork p child) ≡ None) (b : Begins old mid p child cs) where
   abbrev k : Kernel
@@ -98,6 +145,27 @@ module _ (laws : RegionLaws) (fit : GoodRegionsFit) (old mid : Kernel) (p child 
     pub child_new : is_alive child after.spaces ≡ false
     child_new = ap (λ (n : Kernel). is_alive child n.spaces) is_after ∙ ap is_some may.free
 
+    other_process : p ≢ child
+    other_process e = let bad : Some rs ≡ None = sym may.there ∙ ap (entry k.spaces.processes) e ∙ may.free in cc
+
+    -- what the copying cost is at most what it would cost where held pages are held still
+    spent_by : (m : Memory) → m.frames.page ≡ k.memory.frames.page → ((o i f : ℕ) → entry_frame (with_entries k os) o i ≡ Some f → is_held (counts_at k.memory.frames f) ≡ true → (entry_frame m o i ≡ Some f) × (is_held (counts_at m.frames f) ≡ true)) → sum_by (region_work (with_entries k os) rs) cs ≤ sum_by (λ (r : Region). copies_work m r.object.0 r.pages) (filter is_forked rs)
+    spent_by m page stays =
+        let f : Region → ℕ = λ (r : Region). copies_work (with_entries k os) r.object.0 (length (object_at os r.object.0)) in
+        let first = b.made.works f in
+        let all : filter is_forked (take (length rs) rs) ≡ filter is_forked rs = ap (filter is_forked) (take_all (length rs) rs (omega arith)) in
+        let each : (r : Region) → Has r (filter is_forked rs) → f r ≤ copies_work m r.object.0 r.pages = λ r is.
+        let there = source_there laws k p child rs cs os may refusal b.made r (from_filter is_forked r rs is) in
+        let long : length (object_at os r.object.0) ≡ r.pages = all_has (IsBacked os) (all_regions (slice_set k.spaces.processes child (Some cs)) k.hidden) b.made.backed.each r (has_left r (owned_regions (slice_set k.spaces.processes child (Some cs))) (map hidden_region k.hidden) there) in
+        let less = works_back (with_entries k os) m r.object.0 r.pages page (stays r.object.0) in
+        omega (arith, less, ap (copies_work (with_entries k os) r.object.0) long) in
+        omega (arith, first, ap (sum_by f) all, sum_less f (λ (r : Region). copies_work m r.object.0 r.pages) (filter is_forked rs) each)
+
+    spent_there : Spends (sum_by (region_work mid.memory (regions_of p mid.spaces)) cs) 0 (2 ^ 24) (2 ^ 11) mid.memory.frames.meters after.memory.frames.meters → Spends (sum_by (region_work (with_entries k os) rs) cs) 0 (2 ^ 24) (2 ^ 11) old.memory.frames.meters after.memory.frames.meters
+    spent_there s =
+        let one = subst (λ (n : Kernel). Spends (sum_by (region_work n.memory (regions_of p n.spaces)) cs) 0 (2 ^ 24) (2 ^ 11) n.memory.frames.meters after.memory.frames.meters) b.only s in
+        subst (λ t. Spends (sum_by (region_work (with_entries k os) rs) cs) 0 (2 ^ 24) (2 ^ 11) t after.memory.frames.meters) b.clears.meters one
+
     module _ (y : CopiesRegions (objects_of mid.hidden) (regions_of p mid.spaces) cs mid.memory after.memory v w) (new : Kernel) (added : new ≡ with_child after child cs) where
       one : CopiesRegions (objects_of k.hidden) rs cs (with_entries k os) after.memory v w
       one = subst (λ (n : Kernel). CopiesRegions (objects_of n.hidden) (regions_of p n.spaces) cs n.memory after.memory v w) b.only y
@@ -131,9 +199,6 @@ module _ (laws : RegionLaws) (fit : GoodRegionsFit) (old mid : Kernel) (p child 
           (λ other. other)
           (cases_Bool (is_held (counts_at k.memory.frames f)))
 
-      other_process : p ≢ child
-      other_process e = let bad : Some rs ≡ None = sym may.there ∙ ap (entry k.spaces.processes) e ∙ may.free in cc
-
       in_ps : child < length k.spaces.processes
       in_ps = let size = b.clears.good.spaced.processes in omega (arith, size, may.place)
 
@@ -149,6 +214,20 @@ module _ (laws : RegionLaws) (fit : GoodRegionsFit) (old mid : Kernel) (p child 
           let clear = unhidden_region (record (with_child k child cs) { memory = with_entries k os }) (good_forked laws k p child rs cs os may refusal b.made) r there in
           shows.same r i found_before (omega (arith, below, long)) (unheld_before r i free)
           ∙ sym (one.entries.pages r.object.0 i clear (source_apart laws k p child rs cs os may refusal b.made r r_is))
+
+      parents_there : regions_of p done.spaces ≡ rs
+      parents_there = ap (λ (o : Option (List Region)). unwrap_or o []) (get_or-set_other k.spaces.processes child p (Some cs) None other_process)
+
+      pub meters_done : Spends (sum_by (region_work mid.memory (regions_of p mid.spaces)) cs) 0 (2 ^ 24) (2 ^ 11) mid.memory.frames.meters after.memory.frames.meters → Spends (fork_work new p) 0 (2 ^ 24) (2 ^ 11) old.memory.frames.meters new.memory.frames.meters
+      meters_done s =
+          let keeps = one.entries.keeps in
+          let less = spent_by after.memory keeps.page (λ o i f framed held. (keeps.entry_held o i f framed held, keeps.held f held)) in
+          let same : fork_work done p ≡ sum_by (λ (r : Region). copies_work after.memory r.object.0 r.pages) (filter is_forked rs) = ap (λ l. sum_by (λ (r : Region). copies_work after.memory r.object.0 r.pages) (filter is_forked l)) parents_there in
+          subst (λ (n : Kernel). Spends (fork_work n p) 0 (2 ^ 24) (2 ^ 11) old.memory.frames.meters n.memory.frames.meters) (sym is_new)
+          (spends_more (sum_by (region_work (with_entries k os) rs) cs) 0 (2 ^ 24) (2 ^ 11) (fork_work done p) 0 (2 ^ 24) (2 ^ 11) old.memory.frames.meters after.memory.frames.meters (spent_there s) (omega (arith, less, same)) (omega arith) (omega arith) (omega arith))
+
+      pub landed_done : new.memory.frames.landed ≡ old.memory.frames.landed
+      landed_done = ap (λ (n : Kernel). n.memory.frames.landed) is_new ∙ one.entries.landed ∙ b.clears.landed
 
       pub shared_done : SharesPages new p child
       shared_done = subst (λ (n : Kernel). SharesPages n p child) (sym is_new) shared_there
@@ -190,3 +269,16 @@ module _ (laws : RegionLaws) (fit : GoodRegionsFit) (old mid : Kernel) (p child 
 
         pub told_failed : LentFramesSuffice → (host : HostView) → StepsTold (view old host v) (Fork p child) (view (record after { memory = dropped }) host w) reply.StoreFault
         told_failed law host = subst (λ (n : Kernel). StepsTold (view old host v) (Fork p child) (view n host w) reply.StoreFault) (sym is_left) (told_back laws old k p child rs cs os start b.clears may refusal b.made after.memory v w failed dropped d law after.clock host)
+
+        pub meters_failed : Spends (sum_by (region_work mid.memory (regions_of p mid.spaces)) cs) 0 (2 ^ 24) (2 ^ 11) mid.memory.frames.meters after.memory.frames.meters → Spends (fork_work (record after { memory = dropped }) p) 0 (2 ^ 24) (2 ^ 11) old.memory.frames.meters dropped.frames.meters
+        meters_failed s =
+            let keeps = keeps_back laws old k p child rs cs os start b.clears may refusal b.made after.memory v w failed dropped d in
+            let framed_was : (o i : ℕ) → entry_frame (with_entries k os) o i ≡ entry_frame k.memory o i = λ o i. ap (λ (e : Entry). frame_of k.memory.pages.pages e.page) (b.made.entries o i) in
+            let less = spent_by dropped keeps.page (λ o i f framed held. (keeps.entry_held o i f (sym (framed_was o i) ∙ framed) held, keeps.held f held)) in
+            let same : fork_work (record after { memory = dropped }) p ≡ fork_work left p = ap (λ (n : Kernel). fork_work n p) is_left in
+            let meters : dropped.frames.meters ≡ after.memory.frames.meters = ap (λ (t : FrameTable). t.meters) d.frames in
+            subst (λ t. Spends (fork_work (record after { memory = dropped }) p) 0 (2 ^ 24) (2 ^ 11) old.memory.frames.meters t) (sym meters)
+            (spends_more (sum_by (region_work (with_entries k os) rs) cs) 0 (2 ^ 24) (2 ^ 11) (fork_work (record after { memory = dropped }) p) 0 (2 ^ 24) (2 ^ 11) old.memory.frames.meters after.memory.frames.meters (spent_there s) (omega (arith, less, same)) (omega arith) (omega arith) (omega arith))
+
+        pub landed_failed : dropped.frames.landed ≡ old.memory.frames.landed
+        landed_failed = ap (λ (t : FrameTable). t.landed) d.frames ∙ failed.landed ∙ b.clears.landed

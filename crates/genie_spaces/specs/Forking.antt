@@ -1,5 +1,5 @@
 -- A process that begins as a copy of another one.
-use Rattle.std.specs.Prelude.{◌≡◌, ℕ, ◌+◌, ◌<◌, ◌≤◌, Bool, true, false, List, [], not, count_by, length, map, filter, find, take, replicate, Some, slice_index_or, slice_set}
+use Rattle.std.specs.Prelude.{◌≡◌, ℕ, ◌+◌, ◌<◌, ◌≤◌, Bool, true, false, List, [], not, count_by, length, map, filter, find, take, replicate, Some, slice_index_or, slice_set, None, sum_by}
 use Rattle.std.specs.List.{list_any}
 use Rattle.genie_base.specs.Regions.{AreInOrder, is_accessible}
 use Rattle.genie_base.specs.declared.numbers.ObjectId.{ObjectId}
@@ -14,6 +14,7 @@ use Rattle.genie_object.specs.Sound.{IsSound}
 use Rattle.genie_region.specs.declared.region.Region.{Region}
 use Rattle.genie_region.specs.Layouts.{extent, starts_at}
 use Rattle.genie_space.specs.Spaces.{is_alive, regions_of, set_regions}
+use Rattle.genie_sharing.specs.Copying.{copies_work}
 use Rattle.genie_sharing.specs.Regions.{AreCopies, has_object}
 use Rattle.genie_model.specs.Lemmas.Lists.{Has}
 use Rattle.genie_model.specs.Space.{add_copies, spawned}
@@ -60,6 +61,10 @@ pub record IsSource (regions : List Region) (c : Region) : Type 0 where
 abbrev pub ShowsSource : (ℕ → ℕ → List ℕ) → List Region → Region → Type 0
 ShowsSource s regions c = (r : Region) (i : ℕ) → find (starts_at c.start) regions ≡ Some r → i < r.pages → s c.object.0 i ≡ s r.object.0 i
 
+-- what a copy's source counts for
+abbrev pub source_work : (Region → ℕ) → List Region → Region → ℕ
+source_work f regions c = elim (find (starts_at c.start) regions) [ None ↦ 0 | Some r ↦ f r ]
+
 -- those of the first n of these regions that a child gets have copies, with objects of their own
 pub record HasCopies (k : Kernel) (child : ℕ) (regions : List Region) (n : ℕ) (copies : List Region) (objects : List (List Entry)) : Type 0 where
   pub sound : IsSound (with_entries k objects)
@@ -73,6 +78,7 @@ pub record HasCopies (k : Kernel) (child : ℕ) (regions : List Region) (n : ℕ
   pub named : FindsNamed k.transfers (owned_regions k.spaces.processes) (owned_regions (slice_set k.spaces.processes child (Some copies)))
   pub ends : (c : Region) (j : ℕ) (d : Region) → Has c copies → n ≤ j → j < length regions → c.start + c.pages ≤ (slice_index_or regions j d).start
   pub sources : (c : Region) → Has c copies → IsSource regions c
+  pub works : (f : Region → ℕ) → sum_by (source_work f regions) copies ≤ sum_by f (filter is_forked (take n regions))
   pub state : (b : Bytes) → ((c : Region) → Has c copies → ShowsSource b.seen.entry_bytes regions c) → state_of (with_child k child copies) b ≡ add_copies (spawned (state_of k b) child) child (map (region_view b.seen.entry_bytes) (filter is_forked (take n regions)))
 
 -- the pages of the parent's regions may be copied to the copies: the kernel with the child is good, and has few objects
@@ -94,3 +100,8 @@ pub record Begins (old new : Kernel) (p child : ℕ) (copies : List Region) : Ty
   pub only : new ≡ record cleared { memory = with_entries cleared new.memory.objects }
   pub ordered : AreInOrder extent (regions_of p cleared.spaces)
   pub made : HasCopies cleared child (regions_of p cleared.spaces) (length (regions_of p cleared.spaces)) copies new.memory.objects
+
+-- the bytes that are moved for a fork of process p: those of each page of its regions that a device holds. Such a page stays
+-- held, in its frame
+abbrev pub fork_work : Kernel → ℕ → ℕ
+fork_work k p = sum_by (λ (r : Region). copies_work k.memory r.object.0 r.pages) (filter is_forked (regions_of p k.spaces))

@@ -1,15 +1,15 @@
 //! A process that begins as a copy of another one.
-ghost use Rattle.std.specs.Prelude.{◌≡◌, ◌<◌, ◌^◌, IsTrue, None, OnErr, OnOk, count_by, false, length};
+ghost use Rattle.std.specs.Prelude.{◌≡◌, ◌<◌, ◌^◌, IsTrue, None, OnErr, OnOk, count_by, false, length, sum_by};
 ghost use Rattle.genie_base.specs.Causes.{HasCause};
 ghost use Rattle.genie_base.specs.Events.{mark_of};
 ghost use Rattle.genie_base.specs.declared.event.Event.TheVariants as event;
 ghost use Rattle.genie_base.specs.declared.reply.Reply.TheVariants as reply;
 ghost use Rattle.genie_hiding.specs.Hidden.{is_of, objects_of};
 ghost use Rattle.genie_host.specs.Host.{HostView};
-ghost use Rattle.genie_object.specs.Costs.{AreBelow};
+ghost use Rattle.genie_object.specs.Costs.{AreBelow, Spends};
 ghost use Rattle.genie_object.specs.Sound.{IsSized};
 ghost use Rattle.genie_sharing.specs.Copying.{Copies};
-ghost use Rattle.genie_sharing.specs.Regions.{CopiesRegions, is_copied};
+ghost use Rattle.genie_sharing.specs.Regions.{CopiesRegions, is_copied, region_work};
 ghost use Rattle.genie_space.specs.Spaces.{is_alive, regions_of};
 ghost use Rattle.genie_model.specs.Refusing.{refuse};
 ghost use Rattle.genie_kernel.specs.Good.{IsGood};
@@ -17,7 +17,7 @@ ghost use Rattle.genie_kernel.specs.Kept.{Kept};
 ghost use Rattle.genie_kernel.specs.Steps.{StepsTold, StoreCause};
 ghost use Rattle.genie_kernel.specs.View.{outline, view};
 ghost use Rattle.genie_spaces.specs.Clearing.{Clears};
-ghost use Rattle.genie_spaces.specs.Forking.{Begins, CanCopyPages, SharesPages, with_child};
+ghost use Rattle.genie_spaces.specs.Forking.{Begins, CanCopyPages, SharesPages, fork_work, with_child};
 
 use crate::copies::make_copies;
 use crate::laws::region_laws;
@@ -28,7 +28,7 @@ use genie_kernel::Kernel;
 use genie_kernel::laws::{memory_calls_keep_good, states_are_alike};
 use genie_region::Regions;
 use genie_room::laws::{four_are_available, room_is_kept};
-use genie_sharing::regions::drop_objects;
+use genie_sharing::drop_objects;
 use genie_store::{Store, StoreFault};
 
 // Drops the hidden regions of a process.
@@ -65,6 +65,7 @@ fn copy_pages<S: Store>(
     ensures copied { OnOk result (CopiesRegions (objects_of kernel.old.hidden) (regions_of pid kernel.old.spaces) copies.now kernel.old.memory kernel.new.memory (S.view store.old) (S.view store.new)) }
     ensures failed { OnErr result (Copies (objects_of kernel.old.hidden) (is_copied copies.now) kernel.old.memory kernel.new.memory (S.view store.old) (S.view store.new)) }
     ensures cause { HasCause (S.view store.old).faults (S.view store.new).faults result }
+    ensures meters { Spends (sum_by (region_work kernel.old.memory (regions_of pid kernel.old.spaces)) copies.now) 0 (2 ^ 24) (2 ^ 11) kernel.old.memory.frames.meters kernel.new.memory.frames.meters }
 {
     regions_fit();
     four_are_available();
@@ -113,7 +114,9 @@ pub fn fork<S: Store>(kernel: &mut Kernel, store: &mut S, pid: u32, child: u32) 
     ensures step { (host : HostView) → StepsTold (view kernel.old host (S.view store.old)) (event.Fork pid child) (view kernel.new host (S.view store.new)) result }
     ensures cause { StoreCause (mark_of result) (S.view store.old).faults (S.view store.new).faults }
 
-    // Nothing is copied but what a device holds.
+    // Nothing is copied but what a device holds, no page is got, and no byte lands.
+    ensures meters { Spends (fork_work kernel.new pid) 0 (2 ^ 24) (2 ^ 11) kernel.old.memory.frames.meters kernel.new.memory.frames.meters }
+    ensures landed { kernel.new.memory.frames.landed ≡ kernel.old.memory.frames.landed }
     ensures shared { result ≡ reply.Okay → SharesPages kernel.new pid child }
 {
     region_laws();

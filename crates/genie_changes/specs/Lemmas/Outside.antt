@@ -7,6 +7,7 @@ use Rattle.std.proofs.lemmas.Bool.{cases_Bool, eq-eqb}
 use Rattle.std.proofs.lemmas.List.Sums.{sum_by-cons}
 use Rattle.genie_base.specs.Lemmas.Places.{num}
 use Rattle.genie_object.specs.declared.memory.Memory.{Memory}
+use Rattle.genie_object.specs.declared.objects.Entry.{Entry}
 use Rattle.genie_object.specs.Memory.{Seen}
 use Rattle.genie_object.specs.Objects.{object_at, entry_at, is_absent}
 use Rattle.genie_object.specs.Touching.{Narrows}
@@ -15,7 +16,7 @@ use Rattle.genie_hiding.specs.declared.hidden.Hidden.{Hidden}
 use Rattle.genie_hiding.specs.Hidden.{object_of, objects_of, is_among, outside}
 use Rattle.genie_model.specs.Lemmas.Lists.{Has, has_at, has_left, has_right}
 use Rattle.genie_kernel.specs.declared.kernel.Kernel.{Kernel}
-use Rattle.genie_kernel.specs.Backed.{AreGuarded, hidden_region, has_object}
+use Rattle.genie_kernel.specs.Backed.{AreBacked, AreGuarded, all_regions, hidden_region, has_object}
 use Rattle.genie_kernel.specs.Good.{IsGood}
 use Rattle.genie_kernel.specs.Regions.{object_bytes, region_view, process_view, processes_view, regions_of, owned_regions}
 use Rattle.genie_kernel.specs.View.{Bytes, state_of, bytes_with}
@@ -42,14 +43,17 @@ most_one false = omega arith
 none_above : (n : ℕ) → n ≡ 0 → nat_lt 0 n ≡ false
 none_above n e = ap (nat_lt 0) e
 
--- an object is that of one region
-pub unhidden : (k : Kernel) → IsGood k → (r : Region) → Has r (owned_regions k.spaces.processes) → is_among r.object.0 (objects_of k.hidden) ≡ false
-unhidden k g r h =
+-- an object is that of one region, owned or hidden
+pub backed_unhidden : (objects : List (List Entry)) (ps : List (Option (List Region))) (hidden : List Hidden) → AreBacked objects (all_regions ps hidden) → (r : Region) → Has r (owned_regions ps) → is_among r.object.0 (objects_of hidden) ≡ false
+backed_unhidden objects ps hidden backed r h =
     let o : ℕ = r.object.0 in
-    let most = most_one (is_absent (object_at k.memory.objects o)) in
-    let one = g.backed.one o in
-    let some = count_has o r (owned_regions k.spaces.processes) h refl in
-    none_above _ (omega (arith, some, one, most, count_both o (owned_regions k.spaces.processes) (map hidden_region k.hidden), count_hidden o k.hidden))
+    let most = most_one (is_absent (object_at objects o)) in
+    let one = backed.one o in
+    let some = count_has o r (owned_regions ps) h refl in
+    none_above _ (omega (arith, some, one, most, count_both o (owned_regions ps) (map hidden_region hidden), count_hidden o hidden))
+
+pub unhidden : (k : Kernel) → IsGood k → (r : Region) → Has r (owned_regions k.spaces.processes) → is_among r.object.0 (objects_of k.hidden) ≡ false
+unhidden k g r h = backed_unhidden k.memory.objects k.spaces.processes k.hidden g.backed r h
 
 -- permissions that only shrink outside hidden regions leave read-only regions so
 pub guards_outside : (k : Kernel) (m : Memory) → IsGood k → ((o i : ℕ) → is_among o (objects_of k.hidden) ≡ false → Narrows (entry_at k.memory.objects o i) (entry_at m.objects o i)) → AreGuarded m.objects (owned_regions k.spaces.processes)

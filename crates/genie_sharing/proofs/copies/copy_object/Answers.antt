@@ -1,6 +1,6 @@
 use Rattle.std.proofs.Common.{arith}
 use Rattle.genie_object.specs.Leaving.{is_object}
-use Rattle.genie_sharing.proofs.Looping.{copied_all, copying_failed, copying_more, copying_none, cause_later, roomy_next}
+use Rattle.genie_sharing.proofs.Looping.{copied_all, copying_failed, copying_more, copying_none, below_next, cause_later, other_object, roomy_next, spent_failed, work_kept}
 use Rattle.genie_sharing.proofs.copies.copy_object.Goals as goal
 
 pub entries-init : goal.entries-init
@@ -23,3 +23,12 @@ returns-clause-copies g c = copied_all c.args.hidden.now c.entries.hidden c.args
 
 pub returns-clause-cause : goal.returns-clause-cause
 returns-clause-cause g c = record { later = omega (arith, c.entries.invariant.steady); failed = tt; kept = c.entries.invariant.steady }
+
+pub copy_entry-requires-clause-meters : goal.copy_entry-requires-clause-meters
+copy_entry-requires-clause-meters g c = below_next c.entries.index c.args.memory.now c.args.from.0 c.entries.memory.frames.meters (let t = c.entries-test.true in let n = c.pages-pages.ensures.most in omega (arith, t, n)) c.requires.page c.requires.meters c.entries.invariant.meters
+
+pub returns-in-Err-clause-meters : goal.returns-in-Err-clause-meters
+returns-in-Err-clause-meters g c =
+    let x = c.entries.invariant.copies in
+    let less = work_kept c.args.memory.now c.entries.memory c.args.from.0 c.entries.index c.requires.sound x.sound x.keeps x.counts (x.pages c.args.from.0 c.entries.index c.requires.from_owned (other_object c.args.from.0 c.args.to.0 c.entries.index c.requires.apart)) in
+    spent_failed c.entries.index c.args.memory.now c.entries.memory c.args.from.0 c.copy_entry.new.memory.frames.meters (let t = c.entries-test.true in let n = c.pages-pages.ensures.number in omega (arith, t, n)) (let n = c.pages-pages.ensures.number in let m = c.pages-pages.ensures.most in omega (arith, n, m)) less c.entries.invariant.meters c.copy_entry.ensures.meters

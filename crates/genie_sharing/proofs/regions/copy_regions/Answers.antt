@@ -1,6 +1,6 @@
-use Rattle.std.proofs.Common.{arith, sym, ◌∙◌}
+use Rattle.std.proofs.Common.{◌+◌, arith, sym, ◌∙◌}
 use Rattle.genie_sharing.specs.Regions.{is_copied}
-use Rattle.genie_sharing.proofs.EachRegion.{copied_all, copy_empty, copying_failed, copying_more, copying_none, copies_found, from_owned, objects_differ, size_same, source_there, to_owned}
+use Rattle.genie_sharing.proofs.EachRegion.{copied_all, copy_empty, copying_failed, copying_more, copying_none, copies_found, meters_more, spent_all, from_owned, objects_differ, size_same, source_there, to_owned}
 use Rattle.genie_sharing.proofs.Looping.{roomy_next}
 use Rattle.genie_sharing.proofs.regions.copy_regions.Goals as goal
 
@@ -35,7 +35,10 @@ pub unreachable-requires : goal.unreachable-requires
 unreachable-requires g c = copies_found c.args.regions.now c.args.copies.now c.copies.i c.at-copy.result c.args.memory.now c.args.hidden.now c.requires.copies c.at-copy.ensures (sym c.starting_at.ensures ∙ c.in-None.is)
 
 pub copies-preserved : goal.copies-preserved
-copies-preserved g c = copying_more c.args.hidden.now c.copies.hidden c.copy_object.new.hidden c.args.regions.now c.args.copies.now c.copies.i c.args.memory.now c.copies.memory c.copy_object.new.memory (g.S.Store.view c.args.store.now) (g.S.Store.view c.copies.store) (g.S.Store.view c.copy_object.new.store) c.at-copy.result c.in-Some.region c.requires.copies c.requires.sound c.copies.invariant c.at-copy.ensures (sym c.starting_at.ensures ∙ c.in-Some.is) c.in-Ok.ensures.copies c.copy_object.ensures.hidden c.in-Ok.ensures.cause.kept c.copy_object.ensures.meters
+copies-preserved g c = copying_more c.args.hidden.now c.copies.hidden c.copy_object.new.hidden c.args.regions.now c.args.copies.now c.copies.i c.args.memory.now c.copies.memory c.copy_object.new.memory (g.S.Store.view c.args.store.now) (g.S.Store.view c.copies.store) (g.S.Store.view c.copy_object.new.store) c.at-copy.result c.in-Some.region c.requires.copies c.requires.sound c.copies.invariant c.at-copy.ensures (sym c.starting_at.ensures ∙ c.in-Some.is) c.in-Ok.ensures.copies c.requires.page c.copy_object.ensures.few c.copy_object.ensures.hidden c.in-Ok.ensures.cause.kept c.copy_object.ensures.meters
 
 pub returns-clause-copied : goal.returns-clause-copied
 returns-clause-copied g c = copied_all c.args.hidden.now c.copies.hidden c.args.regions.now c.args.copies.now c.copies.i c.args.memory.now c.copies.memory (g.S.Store.view c.args.store.now) (g.S.Store.view c.copies.store) (let n = c.len-i-end.ensures.length in let t = c.copies-test.false in omega (arith, n, t)) c.copies.invariant
+
+pub returns-in-Err-clause-meters : goal.returns-in-Err-clause-meters
+returns-in-Err-clause-meters g c = spent_all (c.copies.i + 1) c.args.memory.now c.args.regions.now c.args.copies.now c.copy_object.new.memory.frames.meters (let t = c.copies-test.true in let n = c.len-i-end.ensures.length in let m = c.len-i-end.ensures.layout.few in omega (arith, t, n, m)) (meters_more c.args.hidden.now c.copies.hidden c.copy_object.new.hidden c.args.regions.now c.args.copies.now c.copies.i c.args.memory.now c.copies.memory c.copy_object.new.memory (g.S.Store.view c.args.store.now) (g.S.Store.view c.copies.store) (g.S.Store.view c.copy_object.new.store) c.at-copy.result c.in-Some.region c.requires.copies c.requires.sound c.copies.invariant c.at-copy.ensures (sym c.starting_at.ensures ∙ c.in-Some.is) c.copy_object.ensures.meters)

@@ -1,4 +1,4 @@
-use Rattle.genie_spaces.proofs.Ended.{child_new, child_number, config_done, config_failed, drop_differ, drop_sound, drop_there, good_done, good_failed, kept_done, kept_failed, meters_mid, ready, shared_done, sized_done, sized_failed, sized_mid, tables_size, told_done, told_failed}
+use Rattle.genie_spaces.proofs.Ended.{child_new, child_number, config_done, config_failed, drop_differ, drop_sound, drop_there, good_done, good_failed, kept_done, kept_failed, landed_done, landed_failed, meters_done, meters_failed, meters_mid, ready, shared_done, sized_done, sized_failed, sized_mid, tables_size, told_done, told_failed}
 use Rattle.genie_spaces.proofs.fork.fork.Goals as goal
 
 pub copy_pages-requires-clause-ready : goal.copy_pages-requires-clause-ready
@@ -60,3 +60,15 @@ returns-in-Err-clause-config g c = config_failed c.region_laws.ensures c.regions
 
 pub returns-in-Err-clause-step : goal.returns-in-Err-clause-step
 returns-in-Err-clause-step g c = told_failed c.region_laws.ensures c.regions_fit.ensures.regions c.args.kernel.now c.begin-copies.new.kernel c.args.pid c.args.child c.begin-copies.result c.requires.good c.requires.accepted c.begin-copies.ensures c.copy_pages.new.kernel c.copy_pages.ensures.only (g.S.Store.view c.args.store.now) (g.S.Store.view c.copy_pages.new.store) c.in-Err.ensures.failed c.drop_objects.new.memory c.drop_objects.ensures c.states_are_alike.ensures.lent
+
+pub returns-in-Ok-clause-meters : goal.returns-in-Ok-clause-meters
+returns-in-Ok-clause-meters g c = meters_done c.region_laws.ensures c.regions_fit.ensures.regions c.args.kernel.now c.begin-copies.new.kernel c.args.pid c.args.child c.begin-copies.result c.requires.good c.requires.accepted c.begin-copies.ensures c.copy_pages.new.kernel c.copy_pages.ensures.only (g.S.Store.view c.args.store.now) (g.S.Store.view c.copy_pages.new.store) c.in-Ok.ensures.copied c.add_child.new.kernel c.add_child.ensures c.copy_pages.ensures.meters
+
+pub returns-in-Ok-clause-landed : goal.returns-in-Ok-clause-landed
+returns-in-Ok-clause-landed g c = landed_done c.region_laws.ensures c.regions_fit.ensures.regions c.args.kernel.now c.begin-copies.new.kernel c.args.pid c.args.child c.begin-copies.result c.requires.good c.requires.accepted c.begin-copies.ensures c.copy_pages.new.kernel c.copy_pages.ensures.only (g.S.Store.view c.args.store.now) (g.S.Store.view c.copy_pages.new.store) c.in-Ok.ensures.copied c.add_child.new.kernel c.add_child.ensures
+
+pub returns-in-Err-clause-meters : goal.returns-in-Err-clause-meters
+returns-in-Err-clause-meters g c = meters_failed c.region_laws.ensures c.regions_fit.ensures.regions c.args.kernel.now c.begin-copies.new.kernel c.args.pid c.args.child c.begin-copies.result c.requires.good c.requires.accepted c.begin-copies.ensures c.copy_pages.new.kernel c.copy_pages.ensures.only (g.S.Store.view c.args.store.now) (g.S.Store.view c.copy_pages.new.store) c.in-Err.ensures.failed c.drop_objects.new.memory c.drop_objects.ensures c.copy_pages.ensures.meters
+
+pub returns-in-Err-clause-landed : goal.returns-in-Err-clause-landed
+returns-in-Err-clause-landed g c = landed_failed c.region_laws.ensures c.regions_fit.ensures.regions c.args.kernel.now c.begin-copies.new.kernel c.args.pid c.args.child c.begin-copies.result c.requires.good c.requires.accepted c.begin-copies.ensures c.copy_pages.new.kernel c.copy_pages.ensures.only (g.S.Store.view c.args.store.now) (g.S.Store.view c.copy_pages.new.store) c.in-Err.ensures.failed c.drop_objects.new.memory c.drop_objects.ensures

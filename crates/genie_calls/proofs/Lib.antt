@@ -1,0 +1,4 @@
+pub mod Ending
+pub mod Pools
+pub mod Closed
+pub mod Serving

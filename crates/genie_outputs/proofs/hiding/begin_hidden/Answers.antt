@@ -1,0 +1,35 @@
+use Rattle.std.proofs.Common.{◌≡◌, true, sym, subst}
+use Rattle.std.specs.Prelude.{Some}
+use Rattle.genie_kernel.specs.declared.kernel.Kernel.{Kernel}
+use Rattle.genie_region.specs.Layouts.{region_of}
+use Rattle.genie_space.specs.Spaces.{is_alive, regions_of}
+use Rattle.genie_changes.specs.Settled.{IsSettled}
+use Rattle.genie_outputs.proofs.Given.{found_region}
+use Rattle.genie_outputs.proofs.Gone.{hidden_out, moved_settled}
+use Rattle.genie_outputs.proofs.Lent.{object_there, unlent_out}
+use Rattle.genie_outputs.proofs.Reached.{can_prepare, may_output}
+use Rattle.genie_outputs.proofs.hiding.begin_hidden.Goals as goal
+
+pub lend_strong-requires-clause-range : goal.lend_strong-requires-clause-range
+lend_strong-requires-clause-range g c = can_prepare c.output_laws.ensures c.args.kernel.now c.args.call.now c.args.region.now c.args.range.now (g.S.Store.view c.args.store.now) c.requires.ready
+
+pub add_output-requires-clause-few : goal.add_output-requires-clause-few
+add_output-requires-clause-few g c = (may_output c.args.kernel.now c.args.call.now c.requires.ready.accepted).few
+
+pub lend_strong-requires-clause-there : goal.lend_strong-requires-clause-there
+lend_strong-requires-clause-there g c = object_there c.args.kernel.now c.args.call.now c.args.region.now c.args.range.now (g.S.Store.view c.args.store.now) c.requires.ready
+
+pub hide_region-requires-clause-settled : goal.hide_region-requires-clause-settled
+hide_region-requires-clause-settled g c = subst IsSettled (sym c.add_output.ensures) (moved_settled c.output_laws.ensures c.removal_laws.ensures c.args.kernel.now c.lend_strong.new.memory c.args.call.now c.args.region.now c.args.range.now c.in-Ok.plan (g.S.Store.view c.args.store.now) (g.S.Store.view c.lend_strong.new.store) c.requires.ready c.requires.class c.in-Ok.ensures.lent c.in-Ok.ensures.plan c.lend_strong.ensures.shut)
+
+pub hide_region-requires-clause-alive : goal.hide_region-requires-clause-alive
+hide_region-requires-clause-alive g c = subst (λ (k : Kernel). is_alive c.args.call.now.pid k.spaces ≡ true) (sym c.add_output.ensures) (may_output c.args.kernel.now c.args.call.now c.requires.ready.accepted).alive
+
+pub hide_region-requires-clause-there : goal.hide_region-requires-clause-there
+hide_region-requires-clause-there g c = subst (λ (k : Kernel). region_of c.args.region.now.id (regions_of c.args.call.now.pid k.spaces) ≡ Some c.args.region.now) (sym c.add_output.ensures) (found_region c.args.kernel.now c.args.call.now c.args.region.now c.requires.ready.good c.requires.ready.reached)
+
+pub returns-in-Ok : goal.returns-in-Ok
+returns-in-Ok g c = hidden_out c.output_laws.ensures c.removal_laws.ensures c.args.kernel.now c.lend_strong.new.memory c.args.call.now c.args.region.now c.args.range.now c.in-Ok.plan (g.S.Store.view c.args.store.now) (g.S.Store.view c.lend_strong.new.store) c.requires.ready c.requires.class c.in-Ok.ensures.lent c.in-Ok.ensures.plan c.lend_strong.ensures.shut c.hiding_laws.ensures c.add_output.new.kernel c.hide_region.new.kernel c.add_output.ensures c.hide_region.ensures (g.met.S.Store.paged c.args.store.now) (g.met.S.Store.paged c.lend_strong.new.store) c.in-Ok.ensures.ready c.in-Ok.ensures.bytes c.lend_strong.ensures.sized c.in-Ok.ensures.cause.kept
+
+pub returns-in-Err : goal.returns-in-Err
+returns-in-Err g c = unlent_out c.output_laws.ensures c.args.kernel.now c.lend_strong.new.memory c.args.call.now c.args.region.now c.args.range.now (g.S.Store.view c.args.store.now) (g.S.Store.view c.lend_strong.new.store) c.requires.ready c.in-Err.ensures.failed c.lend_strong.ensures.shut c.lend_strong.ensures.sized c.in-Err.ensures.cause.failed

@@ -1,0 +1,105 @@
+//! Outputs whose region is hidden.
+ghost use Rattle.std.specs.Prelude.{◌≡◌, ◌<◌, ◌-◌, ◌^◌, None, true};
+ghost use Rattle.genie_base.specs.Events.{mark_of};
+ghost use Rattle.genie_base.specs.Transfers.{class_of, is_emulated};
+ghost use Rattle.genie_base.specs.declared.event.Event.TheVariants as event;
+ghost use Rattle.genie_base.specs.declared.semantics.Class.TheVariants.{Move};
+ghost use Rattle.genie_host.specs.Host.{HostView};
+ghost use Rattle.genie_object.specs.Costs.{AreBelow};
+ghost use Rattle.genie_object.specs.Sound.{IsSized};
+ghost use Rattle.genie_model.specs.Refusing.{refuse};
+ghost use Rattle.genie_kernel.specs.Good.{IsGood};
+ghost use Rattle.genie_kernel.specs.Kept.{Kept};
+ghost use Rattle.genie_kernel.specs.Steps.{StepsTold, StoreCause};
+ghost use Rattle.genie_kernel.specs.View.{view, outline};
+ghost use Rattle.genie_outputs.specs.Answering.{IsReady, IsAnswered};
+
+use crate::begin::add_output;
+use crate::call::Call;
+use crate::laws::{hiding_laws, output_laws, removal_laws};
+use crate::lending::lend_strong;
+use crate::room::make_ready;
+use genie_base::{Reply, Semantics, TransferId};
+use genie_changes::hiding::hide_region;
+use genie_kernel::Kernel;
+use genie_object::Range;
+use genie_region::Region;
+use genie_store::Store;
+
+// Lends the range's frames, lets the call wait over them, and hides the region.
+fn begin_hidden<S: Store>(
+    kernel: &mut Kernel,
+    store: &mut S,
+    call: &Call,
+    region: &Region,
+    range: &Range,
+) -> Reply<'static>
+    requires ready { IsReady kernel.old call.now region.now range.now (S.view store.old) }
+    requires class { class_of call.now.sem ≡ Move }
+    ensures { IsAnswered kernel.old call.now kernel.new (S.view store.old) (S.view store.new) result }
+{
+    output_laws();
+    removal_laws();
+    hiding_laws();
+    let id = kernel.next;
+    match lend_strong(
+        &mut kernel.memory,
+        store,
+        TransferId(id),
+        range,
+        region.writable,
+    ) {
+        Ok(plan) => {
+            add_output(kernel, call, region, range, plan);
+            hide_region(kernel, call.pid, *region);
+            Reply::Id { id }
+        }
+        Err(_) => Reply::StoreFault,
+    }
+}
+
+/// An emulated output call of class `Move`: the frames of its pages are lent as they are, and its region is hidden. The cache
+/// keeps it with those of its pages that are its own and in a frame that no device reads or writes in place, so that a later
+/// input can take it again. The device sends the bytes that the range has at the call. The reply has the number of the
+/// transfer. Where the store fails, what processes and devices see is as before.
+pub fn out_hidden<S: Store>(
+    kernel: &mut Kernel,
+    store: &mut S,
+    pid: u32,
+    sem: Semantics,
+    dev: u32,
+    port: u16,
+    flow: Option<u32>,
+    addr: u32,
+    len: u32,
+) -> Reply<'static>
+    requires good { IsGood kernel.old }
+    requires sized { IsSized kernel.old.memory (S.view store.old) }
+    requires meters { AreBelow (2 ^ 63) kernel.old.memory.frames.meters }
+
+    // There is a number for the transfer.
+    requires numbered { kernel.old.next < 2 ^ 32 - 1 }
+    requires accepted { refuse (outline kernel.old) (event.Output pid sem dev port flow addr len) ≡ None }
+    requires class { class_of sem ≡ Move }
+    requires emulated { is_emulated sem ≡ true }
+    ensures good { IsGood kernel.new }
+    ensures sized { IsSized kernel.new.memory (S.view store.new) }
+    ensures kept { Kept kernel.old kernel.new }
+    ensures step { (host : HostView) → StepsTold (view kernel.old host (S.view store.old)) (event.Output pid sem dev port flow addr len) (view kernel.new host (S.view store.new)) result }
+    ensures cause { StoreCause (mark_of result) (S.view store.old).faults (S.view store.new).faults }
+{
+    output_laws();
+    let call = Call {
+        pid,
+        sem,
+        dev,
+        port,
+        flow,
+        addr,
+        len,
+    };
+    match make_ready(kernel, store, &call) {
+        Ok((region, range)) => begin_hidden(kernel, store, &call, &region, &range),
+        Err(_) => Reply::StoreFault,
+    }
+}

@@ -1,0 +1,16 @@
+pub mod Payloads
+pub mod Matched
+pub mod Within
+pub mod Begun
+pub mod Skipping
+pub mod Ready
+pub mod Zeros
+pub mod Strong
+pub mod Inputs
+pub mod Landed
+pub mod Matching
+pub mod EarlySteps
+pub mod Showing
+pub mod Answering
+pub mod Weak
+pub mod Drifting
