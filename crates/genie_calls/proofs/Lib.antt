@@ -2,3 +2,4 @@ pub mod Ending
 pub mod Pools
 pub mod Closed
 pub mod Serving
+pub mod Handles

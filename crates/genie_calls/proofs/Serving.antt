@@ -1,6 +1,7 @@
 -- What each family of events leaves.
-use Rattle.std.proofs.Common.{◌≡◌, ℕ, Bool, true, false, refl, sym, ap, subst, ◌∙◌, length, List}
-use Rattle.std.specs.Prelude.{Option, Some, None}
+use Rattle.std.proofs.Common.{◌≡◌, ℕ, true, refl, sym, ap, subst, ◌∙◌, List}
+use Rattle.std.specs.Prelude.{Option, Some, None, ◌==◌}
+use Rattle.std.specs.List.{list_any}
 use Rattle.std.specs.Option.{option_map}
 use Rattle.genie_base.specs.Events.{mark_of}
 use Rattle.genie_base.specs.declared.config.Config.{Config}
@@ -20,16 +21,17 @@ use Rattle.genie_model.specs.State.{State}
 use Rattle.genie_model.specs.Step.{Outcome, answer, step}
 use Rattle.genie_kernel.specs.declared.kernel.Kernel.{Kernel}
 use Rattle.genie_kernel.specs.Good.{IsGood}
-use Rattle.genie_kernel.specs.Handles.{HasHandles, KeepsOthers}
+use Rattle.genie_kernel.specs.Handles.{HasHandles, KeepsOthers, handles}
 use Rattle.genie_kernel.specs.Kept.{Kept}
 use Rattle.genie_kernel.specs.Steps.{StepsAlone, StepsTold, StoreCause, DeviceCause, bytes_over}
 use Rattle.genie_kernel.specs.Told.{rests_of, sents_of}
-use Rattle.genie_kernel.specs.View.{Bytes, bytes_with, outline, state_of, view}
+use Rattle.genie_kernel.specs.View.{bytes_with, outline, state_of, view}
 use Rattle.genie_kernel.specs.Lemmas.Blind.{refuses_alike}
 use Rattle.genie_kernel.specs.Lemmas.Keeping.{calls_kept}
+use Rattle.genie_kernel.specs.Lemmas.OpenHandles.{others_kept}
 use Rattle.genie_kernel.specs.Lemmas.Stepping.{alone_told}
 use Rattle.genie_changes.specs.Paged.{IsPaged, PagedIsTold, StepsPaged}
-use Rattle.genie_calls.specs.Serving.{Outside, Nothing, TheStore, TheHandle, Served, ServedAlone, ServedByStore, Touches, TouchesStore, touched_by}
+use Rattle.genie_calls.specs.Serving.{Outside, Nothing, TheStore, TheHandle, Served, ServedAlone, ServedByHost, ServedByStore, Touches, touched_by}
 
 only_refl : (h : ℕ) (v : HostView) → OnlyHandle h v v
 only_refl h v = record { names = refl; others = λ k ne. refl; mode = refl; opened = refl; tried = refl; refusals = refl }
@@ -94,3 +96,16 @@ refused_told k e x h (Some slots) (Some rests) (Some sents) =
 
 pub refused_served : (k : Kernel) (e : Event) (x : Refusal) → IsGood k → refuse (outline k) e ≡ Some x → ServedAlone k e k (reply.Err x)
 refused_served k e x g h = λ host v handles sized paged. served_alone k k e (reply.Err x) host v g g (calls_kept k k.memory g (keeps_all k.memory)) refl refl handles sized (refused_told k e x h v.slots (rests_of host k.config) (sents_of host k.config))
+
+-- an event that touches the handle of its device
+pub host_served : (old new : Kernel) (e : Event) (h : ℕ) (before after : HostView) (r : Reply) → touched_by old.config e ≡ TheHandle h → list_any (λ g. g == h) (handles old.config) ≡ true → IsGood old → IsGood new → Kept old new → new.config ≡ old.config → OnlyHandle h before after → HasHandles new.config after → ((v : StoreView) → IsSized old.memory v → IsPaged v → StepsTold (view old before v) e (view new after v) r) → DeviceCause (mark_of r) (before.handle h).faults (after.handle h).faults → ServedByHost old e new before after r
+host_served old new e h before after r outside named g good kept config only opened told cause = λ v sized paged. record {
+  good = good;
+  sized = still_sized old new v g good config sized;
+  kept = kept;
+  config = config;
+  step = told v sized paged;
+  touches = subst (λ o. Touches o (mark_of r) before after v v) (sym outside) (record { only = only; cause = cause; store = refl });
+  handles = opened;
+  others = others_kept old.config h before after only named;
+}

@@ -8,8 +8,8 @@ ghost use Rattle.genie_kernel.specs.Good.{IsGood};
 ghost use Rattle.genie_calls.specs.Closing.{IsClosed, IsLent, KeepsPages, KeepsRest, LendsPools, PoolEnds};
 
 use crate::laws::close_laws;
+use genie_changes::giving::give_back;
 use genie_changes::settled::good_kernels_are_settled;
-use genie_endings::give_back::give_back;
 use genie_input::Pool;
 use genie_kernel::Kernel;
 use genie_object::Memory;

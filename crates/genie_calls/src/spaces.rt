@@ -13,6 +13,7 @@ use genie_changes::settled::paged_events_are_told;
 use genie_kernel::Kernel;
 use genie_store::Store;
 
+// A process begins.
 pub(crate) fn spawn(kernel: &mut Kernel, pid: u32) -> Reply<'static>
     requires good { IsGood kernel.old }
     requires accepted { refuse (outline kernel.old) (event.Spawn pid) ≡ None }
@@ -21,6 +22,7 @@ pub(crate) fn spawn(kernel: &mut Kernel, pid: u32) -> Reply<'static>
     genie_spaces::spawn::spawn(kernel, pid)
 }
 
+// A process begins as a copy of another one.
 pub(crate) fn fork<S: Store>(
     kernel: &mut Kernel,
     store: &mut S,
@@ -36,6 +38,7 @@ pub(crate) fn fork<S: Store>(
     genie_spaces::fork::fork(kernel, store, parent, child)
 }
 
+// A process ends.
 pub(crate) fn exit(kernel: &mut Kernel, pid: u32) -> Reply<'static>
     requires good { IsGood kernel.old }
     requires accepted { refuse (outline kernel.old) (event.Exit pid) ≡ None }
@@ -45,6 +48,7 @@ pub(crate) fn exit(kernel: &mut Kernel, pid: u32) -> Reply<'static>
     genie_spaces::exit::exit(kernel, pid)
 }
 
+// A region begins in the application area.
 pub(crate) fn map(kernel: &mut Kernel, pid: u32, page: u32, pages: u32) -> Reply<'static>
     requires good { IsGood kernel.old }
     requires accepted { refuse (outline kernel.old) (event.Map pid page pages) ≡ None }
@@ -53,6 +57,7 @@ pub(crate) fn map(kernel: &mut Kernel, pid: u32, page: u32, pages: u32) -> Reply
     genie_spaces::map::map(kernel, pid, page, pages)
 }
 
+// A region begins in the system area.
 pub(crate) fn alloc(kernel: &mut Kernel, pid: u32, pages: u32) -> Reply<'static>
     requires good { IsGood kernel.old }
     requires accepted { refuse (outline kernel.old) (event.Alloc pid pages) ≡ None }
@@ -61,6 +66,7 @@ pub(crate) fn alloc(kernel: &mut Kernel, pid: u32, pages: u32) -> Reply<'static>
     genie_spaces::map::alloc(kernel, pid, pages)
 }
 
+// A region is removed.
 pub(crate) fn unmap(kernel: &mut Kernel, pid: u32, page: u32) -> Reply<'static>
     requires good { IsGood kernel.old }
     requires accepted { refuse (outline kernel.old) (event.Unmap pid page) ≡ None }
@@ -70,6 +76,7 @@ pub(crate) fn unmap(kernel: &mut Kernel, pid: u32, page: u32) -> Reply<'static>
     genie_spaces::unmap::unmap(kernel, pid, page)
 }
 
+// A region becomes read-only or read-write.
 pub(crate) fn protect(kernel: &mut Kernel, pid: u32, page: u32, writable: bool) -> Reply<'static>
     requires good { IsGood kernel.old }
     requires accepted { refuse (outline kernel.old) (event.Protect pid page writable) ≡ None }

@@ -26,6 +26,7 @@ pub mod Starting
 pub mod InRegion
 pub mod Moved
 pub mod GivenBack
+pub mod LoansOut
 pub mod EndedTransfer
 pub mod Settling
 pub mod Lent

@@ -5,6 +5,7 @@
 pub mod beginning;
 pub mod ends;
 pub mod given;
+pub mod giving;
 pub mod gone;
 pub mod guarding;
 pub mod hiding;

@@ -1,11 +1,10 @@
 -- The loans and wires of a pending transfer are out.
-use Rattle.std.proofs.Common.{◌≡◌, ℕ, ◌≤◌, List, sym, subst, arith}
+use Rattle.std.proofs.Common.{◌≡◌, ℕ, ◌≤◌, sym, subst, arith}
 use Rattle.std.specs.Prelude.{Some, find}
 use Rattle.genie_frame.specs.declared.frame.Counts.{Counts}
-use Rattle.genie_frame.specs.FrameTable.{FrameTable, counts_at}
-use Rattle.genie_plan.specs.Loans.{Loan, LoanKind, AreOut, amount, loan_times}
+use Rattle.genie_frame.specs.FrameTable.{counts_at}
+use Rattle.genie_plan.specs.Loans.{AreOut}
 use Rattle.genie_plan.specs.Loans as kind
-use Rattle.genie_plan.specs.Wiring.{Unwired}
 use Rattle.genie_model.specs.Lemmas.Lists.{Has, find_has}
 use Rattle.genie_kernel.specs.declared.kernel.Kernel.{Kernel}
 use Rattle.genie_kernel.specs.declared.transfer.Transfer.{Transfer}
@@ -14,12 +13,6 @@ use Rattle.genie_kernel.specs.Counted.{loans_on, wires_on}
 use Rattle.genie_kernel.specs.Good.{IsGood}
 use Rattle.genie_kernel.specs.Loans.{loans_of}
 use Rattle.genie_kernel.specs.Lemmas.Staying.{at_least}
-
--- wires that are off change no loan
-pub out_unwired : (frames : List ℕ) (old new : FrameTable) (loans : List Loan) → Unwired frames old new → AreOut old loans → AreOut new loans
-out_unwired frames old new loans off out kind.Strong f = subst (λ (c : Counts). loan_times loans kind.Strong f ≤ c.strong) (sym (off.counts f)) (out kind.Strong f)
-out_unwired frames old new loans off out kind.Weak f = subst (λ (c : Counts). loan_times loans kind.Weak f ≤ c.weak) (sym (off.counts f)) (out kind.Weak f)
-out_unwired frames old new loans off out kind.Input f = subst (λ (c : Counts). loan_times loans kind.Input f ≤ c.input) (sym (off.counts f)) (out kind.Input f)
 
 module _ (k : Kernel) (n : ℕ) (t : Transfer) (g : IsGood k) (found : find (has_number n) k.transfers ≡ Some t) where
   there : Has t k.transfers

@@ -4,9 +4,9 @@ ghost use Rattle.genie_kernel.specs.Calls.{has_number};
 ghost use Rattle.genie_kernel.specs.Good.{IsGood};
 ghost use Rattle.genie_endings.specs.Ends.{EndsCall};
 
-use crate::give_back::give_back;
 use crate::laws::ending_laws;
 use genie_base::TransferId;
+use genie_changes::giving::give_back;
 use genie_kernel::{Kernel, Transfer};
 
 // Takes a transfer out, and gives its loans back.

@@ -3,7 +3,6 @@
 
 mod call;
 pub mod cancel;
-pub mod give_back;
 mod laws;
 pub mod output;
 mod region;

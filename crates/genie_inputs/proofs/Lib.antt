@@ -4,6 +4,7 @@ mod Buffered
 mod Copying
 mod Enlarged
 mod Filling
+mod Finding
 mod Holding
 mod Lending
 mod MovedIn

@@ -322,11 +322,6 @@ module _ (k : Kernel) (t : Transfer) (g : IsSettled k) (there : Has t k.transfer
   pub wires_out : (f : ℕ) → wires_on f t ≤ (counts_at k.memory.frames f).wires
   wires_out f = omega (arith, ap (λ (c : Counts). c.wires) (g.counted f), at_least (wires_on f) k.transfers t there)
 
-pub same_amount : (wanted : kind.LoanKind) (c : Counts) (w : ℕ) → kind.amount wanted (record c { wires = w }) ≡ kind.amount wanted c
-same_amount kind.Strong c w = refl
-same_amount kind.Weak c w = refl
-same_amount kind.Input c w = refl
-
 pub posted_one : (p n : ℕ) (k : Kernel) (t : Transfer) (x : IsPostedAt p n k.transfers) → IsSettled k → find (has_number n) k.transfers ≡ Some t → is_posted_by p t ≡ true
 posted_one p n k t x g e = let both : Some x.transfer ≡ Some t = sym (posted_found p n k x g) ∙ e in let same : x.transfer ≡ t = cc in subst (λ u. is_posted_by p u ≡ true) same x.posted
 

@@ -2,20 +2,14 @@
 ghost use Rattle.std.specs.Prelude.{◌≡◌, ◌+◌, ◌<◌, ◌≤◌, ℕ, [], AllPairs, IfSome, IsSome, IsTrue, None, false, find, length, map, true, slice_index_or, slice_set};
 ghost use Rattle.std.specs.List.{list_any};
 ghost use Rattle.genie_base.specs.declared.event.Event.TheVariants as event;
-ghost use Rattle.genie_frame.specs.FrameTable.{counts_at};
 ghost use Rattle.genie_hiding.specs.Hidden.{others};
-ghost use Rattle.genie_plan.specs.Loans.{AreOut, Ended};
-ghost use Rattle.genie_plan.specs.Wiring.{Unwired};
 ghost use Rattle.genie_space.specs.Spaces.{is_alive, regions_of};
 ghost use Rattle.genie_model.specs.Pending.{is_just};
 ghost use Rattle.genie_model.specs.Refusing.{refuse};
 ghost use Rattle.genie_kernel.specs.Calls.{has_number};
-ghost use Rattle.genie_kernel.specs.Counted.{wires_on};
 ghost use Rattle.genie_kernel.specs.Good.{IsGood};
-ghost use Rattle.genie_kernel.specs.Loans.{loans_of};
 ghost use Rattle.genie_kernel.specs.View.{outline};
 ghost use Rattle.genie_kernel.specs.declared.transfer.Transfer.{Transfer as TransferView};
-ghost use Rattle.genie_changes.specs.Ending.{IsGivenBack, wired_frames};
 ghost use Rattle.genie_changes.specs.Gone.{disowned, left_named, without_process};
 ghost use Rattle.genie_changes.specs.Settled.{IsSettled};
 ghost use Rattle.genie_spaces.specs.Exiting.{Exits, IsPostedAt, is_posted_by};
@@ -23,12 +17,11 @@ ghost use Rattle.genie_spaces.specs.ServingPaged.{IsServedPaged};
 
 use crate::laws::exit_laws;
 use genie_base::{Class, RegionId, Reply, TransferId};
+use genie_changes::giving::give_back;
 use genie_changes::removal::remove_region;
-use genie_frame::Frames;
 use genie_hiding::WeakQueue;
-use genie_kernel::{Change, Kernel, Loans, Transfer, Transfers};
+use genie_kernel::{Change, Kernel, Transfer, Transfers};
 use genie_model::Phase;
-use genie_plan::{end_inputs, end_outputs, unwire_inputs, unwire_outputs};
 
 // Whether the process made the call.
 fn is_owned_by(transfer: &Transfer, pid: u32) -> bool
@@ -59,43 +52,6 @@ fn first_posted(transfers: &Transfers, pid: u32) -> Option<TransferId>
         }
     }
     None
-}
-
-// Takes one wire off the frame of each loan of a basic weak call. No other call has wires.
-fn unwire(frames: &mut Frames, transfer: &Transfer)
-    requires { (f : ℕ) → wires_on f transfer.now ≤ (counts_at frames.old f).wires }
-    ensures { Unwired (wired_frames transfer.now) frames.old frames.new }
-{
-    if transfer.sem.strong() || transfer.sem.emulated() {
-        return;
-    }
-    match &transfer.loans {
-        Loans::Nothing => {}
-        Loans::Outward(plan) => unwire_outputs(frames, plan.loans.as_slice()),
-        Loans::Inward(plan) => unwire_inputs(frames, plan.loans.as_slice()),
-    }
-}
-
-// Ends each loan of a transfer once.
-fn end_loans(frames: &mut Frames, transfer: &Transfer)
-    requires { AreOut frames.old (loans_of transfer.now.loans) }
-    ensures { Ended (loans_of transfer.now.loans) frames.old frames.new }
-{
-    match &transfer.loans {
-        Loans::Nothing => {}
-        Loans::Outward(plan) => end_outputs(frames, plan.loans.as_slice()),
-        Loans::Inward(plan) => end_inputs(frames, plan.loans.as_slice()),
-    }
-}
-
-// Takes the wires of a transfer off its frames, and then ends each of its loans once.
-fn give_back(frames: &mut Frames, transfer: &Transfer)
-    requires out { AreOut frames.old (loans_of transfer.now.loans) }
-    requires wired { (f : ℕ) → wires_on f transfer.now ≤ (counts_at frames.old f).wires }
-    ensures { IsGivenBack transfer.now frames.old frames.new }
-{
-    unwire(frames, transfer);
-    end_loans(frames, transfer);
 }
 
 // Ends a posted input of the process: its loans are given back, and it waits for a datagram no more.
