@@ -1,7 +1,7 @@
 //! The end of weak inputs on outboard devices, whose bytes land then.
 ghost use Rattle.std.specs.Prelude.{◌≡◌, ◌+◌, ◌^◌, ◌<◌, None, IfSome, find, length};
 ghost use Rattle.genie_base.specs.declared.event.Event.TheVariants as event;
-ghost use Rattle.genie_base.specs.declared.semantics.Class.TheVariants.{Share};
+ghost use Rattle.genie_base.specs.declared.semantics.Class.TheVariants.{Share, WeakMove};
 ghost use Rattle.genie_plan.specs.Plans.{CanLand, input_frames};
 ghost use Rattle.genie_model.specs.Refusing.{refuse};
 ghost use Rattle.genie_model.specs.Tables.{entry};
@@ -10,7 +10,9 @@ ghost use Rattle.genie_kernel.specs.Good.{IsGood};
 ghost use Rattle.genie_kernel.specs.View.{outline};
 ghost use Rattle.genie_arrivals.specs.Outboard.{CanFetch, EndsPaged, IsLandedAtEnd, IsWeakOutboard, LandsBytes, LandsIn, LandsPending, MayLandIn, waiting_bytes};
 
-use crate::laws::end_laws;
+use crate::laws::{change_laws, end_laws};
+use crate::live::make_live;
+use crate::owned::named_region;
 use crate::waiting::end_waiting;
 use genie_base::{Reply, TransferId};
 use genie_changes::released::{buffers_are_released, buffers_show};
@@ -96,5 +98,35 @@ pub fn finish_share_landed(kernel: &mut Kernel, id: TransferId) -> Reply<'static
         at: None,
         n: transfer.stored,
         note: transfer.note,
+    }
+}
+
+/// Ends a weak move input on an outboard device whose process and region are there: what is stored of it lands in the region
+/// now, and the region is Live. Its buffer is free, and what was lent is given back. It answers the region's address and how
+/// many bytes are stored.
+pub fn finish_weak_move_landed(kernel: &mut Kernel, id: TransferId) -> Reply<'static>
+    requires good { IsGood kernel.old }
+    requires accepted { refuse (outline kernel.old) (event.Finish id.0) ≡ None }
+    requires landed { kernel.old.memory.frames.landed < 2 ^ 63 }
+    requires case { IsLandedAtEnd WeakMove kernel.old id.0 }
+    ensures { EndsPaged kernel.old id.0 kernel.new result }
+{
+    end_laws();
+    change_laws();
+    buffers_show();
+    buffers_are_released();
+    land_pending(kernel, id);
+    let transfer = end_waiting(kernel, id);
+    match named_region(&kernel.spaces, &transfer) {
+        Some(owned) => {
+            let page = kernel.spaces.page().get();
+            make_live(kernel, owned.pid, owned.region.id);
+            Reply::Input {
+                at: Some(owned.region.start * page),
+                n: transfer.stored,
+                note: transfer.note,
+            }
+        }
+        None => unreachable!(),
     }
 }
