@@ -5,6 +5,10 @@ mod Alone
 mod Lent
 mod Quiet
 mod Buffered
+mod Blank
+mod WeakPlan
+mod Landing
+mod EndLanded
 mod Lively
 mod Reaching
 mod Readying

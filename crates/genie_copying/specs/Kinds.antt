@@ -22,7 +22,7 @@ is_weakly_held m o i = elim (entry_frame m o i) [ None ↦ false | Some f ↦ is
 
 -- it can't be written in place: it is untouched, shared or strongly lent
 abbrev pub is_fixed : Memory → ℕ → ℕ → Bool
-is_fixed m o i = is_untouched m o i || (is_shared m o i || is_strongly_lent m o i)
+is_fixed m o i = is_untouched m o i || is_shared m o i || is_strongly_lent m o i
 
 -- it can't be lent strongly in place: it is untouched or weakly held
 abbrev pub is_unlendable : Memory → ℕ → ℕ → Bool
