@@ -42,7 +42,7 @@ use Rattle.genie_changes.specs.Released.{BuffersShow, ReleasedEnds, ReleasedShow
 use Rattle.genie_arrivals.specs.declared.owned.OwnedRegion.{OwnedRegion}
 use Rattle.genie_arrivals.specs.EndLaws.{EndLaws}
 use Rattle.genie_arrivals.specs.Live.{ChangeLaws, lively}
-use Rattle.genie_arrivals.specs.Outboard.{EndsPaged, LandsIn, fetched, waiting_bytes}
+use Rattle.genie_arrivals.specs.Outboard.{EndsLanded, LandsIn, fetched, waiting_bytes}
 use Rattle.genie_arrivals.specs.Owners.{IsNamed}
 use Rattle.genie_arrivals.specs.Replies.{is_owned_number, is_there}
 use Rattle.genie_arrivals.specs.Waiting.{EndsWaiting}
@@ -203,14 +203,16 @@ module _ (laws : EndLaws) (show : BuffersShow) (end : ReleasedEnds) (release : R
             laws.orderly s (outline last) (Finish n) answer refl (accepts_blank n (outline k) accepted) (quiet_steps s (outline last) n answer (put (without_transfer s n) q.id.0 t.offset []) blank_fin refl last_outline) (blank_orderly n (outline k) g.orderly)
 
         -- the end of a share input, whose bytes are in its region
-        pub share_landed : EndsPaged k n new answer
-        share_landed = subst (λ (z : Kernel). EndsPaged k n z answer) (sym x.only) (record {
-          good = laws.good last last_settled share_orderly;
-          sized = last_sized;
-          kept = last_kept;
-          step = λ slots rests sents have. quiet_steps (state_of k (bytes_over k.memory slots rests sents)) (state_of last (bytes_over last.memory slots rests sents)) n answer (put (without_transfer (state_of k (bytes_over k.memory slots rests sents)) n) q.id.0 t.offset payload) (share_fin (bytes_over k.memory slots rests sents)) refl (shown slots rests sents have);
-          config = refl;
-          unfailed = refl;
+        pub share_landed : EndsLanded k n new answer
+        share_landed = subst (λ (z : Kernel). EndsLanded k n z answer) (sym x.only) (record {
+          ends = record {
+            good = laws.good last last_settled share_orderly;
+            sized = last_sized;
+            kept = last_kept;
+            step = λ slots rests sents have. quiet_steps (state_of k (bytes_over k.memory slots rests sents)) (state_of last (bytes_over last.memory slots rests sents)) n answer (put (without_transfer (state_of k (bytes_over k.memory slots rests sents)) n) q.id.0 t.offset payload) (share_fin (bytes_over k.memory slots rests sents)) refl (shown slots rests sents have);
+            config = refl;
+            unfailed = refl;
+          };
           meters = x.back.loans.meters ∙ x.back.wires.only.meters ∙ same_meters k n t g found inward outboard weak F payload landing;
           landed = last_landed;
         })
@@ -251,14 +253,16 @@ module _ (laws : EndLaws) (show : BuffersShow) (end : ReleasedEnds) (release : R
             laws.orderly s (outline moved) (Finish n) moved_answer refl (accepts_blank n (outline k) accepted) (quiet_steps s (outline moved) n moved_answer (turned (put (without_transfer s n) q.id.0 t.offset [])) moved_blank refl is) (blank_orderly n (outline k) g.orderly)
 
         -- the end of a weak move input, whose bytes are in its region
-        pub moved_landed : EndsPaged k n moved moved_answer
+        pub moved_landed : EndsLanded k n moved moved_answer
         moved_landed = record {
-          good = live_good change last last_settled pid regions q had finds moved_orderly;
-          sized = last_sized;
-          kept = record { lent = λ j f a b y. last_kept.lent j f a b (record { was = y.was; is = y.is }); pooled = last_kept.pooled; fresh = λ j f a b y. last_kept.fresh j f a b (record { was = y.was; is = y.is }) };
-          step = λ slots rests sents have. quiet_steps (state_of k (bytes_over k.memory slots rests sents)) (state_of moved (bytes_over last.memory slots rests sents)) n moved_answer (turned (put (without_transfer (state_of k (bytes_over k.memory slots rests sents)) n) q.id.0 t.offset payload)) (moved_fin (bytes_over k.memory slots rests sents)) refl (live_of (bytes_over last.memory slots rests sents) ∙ ap turned (shown slots rests sents have));
-          config = refl;
-          unfailed = refl;
+          ends = record {
+            good = live_good change last last_settled pid regions q had finds moved_orderly;
+            sized = last_sized;
+            kept = record { lent = λ j f a b y. last_kept.lent j f a b (record { was = y.was; is = y.is }); pooled = last_kept.pooled; fresh = λ j f a b y. last_kept.fresh j f a b (record { was = y.was; is = y.is }) };
+            step = λ slots rests sents have. quiet_steps (state_of k (bytes_over k.memory slots rests sents)) (state_of moved (bytes_over last.memory slots rests sents)) n moved_answer (turned (put (without_transfer (state_of k (bytes_over k.memory slots rests sents)) n) q.id.0 t.offset payload)) (moved_fin (bytes_over k.memory slots rests sents)) refl (live_of (bytes_over last.memory slots rests sents) ∙ ap turned (shown slots rests sents have));
+            config = refl;
+            unfailed = refl;
+          };
           meters = x.back.loans.meters ∙ x.back.wires.only.meters ∙ same_meters k n t g found inward outboard weak F payload landing;
           landed = last_landed;
         }

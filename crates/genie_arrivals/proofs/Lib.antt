@@ -9,6 +9,7 @@ mod Blank
 mod WeakPlan
 mod Landing
 mod EndLanded
+mod Unlanded
 mod Lively
 mod Reaching
 mod Readying

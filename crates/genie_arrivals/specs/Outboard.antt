@@ -1,31 +1,27 @@
 -- Inputs whose datagrams wait in outboard memory, and whose bytes land at their end.
-use Rattle.std.specs.Prelude.{◌≡◌, ℕ, ◌+◌, ◌≤◌, true, false, List, [], length, take, find, Option, None, Some, IfSome}
+use Rattle.std.specs.Prelude.{◌≡◌, ℕ, ◌+◌, ◌≤◌, true, false, List, [], length, take, find, Option, None, Some, IfSome, is_some}
 use Rattle.genie_base.specs.Bytes.{overlaid}
-use Rattle.genie_base.specs.Events.{mark_of}
 use Rattle.genie_base.specs.Transfers.{class_of}
-use Rattle.genie_base.specs.declared.event.Event.TheVariants.{Finish}
-use Rattle.genie_base.specs.declared.reply.Mark.TheVariants.{NoFault}
 use Rattle.genie_base.specs.declared.reply.Reply.{Reply}
 use Rattle.genie_base.specs.declared.semantics.Class.{Class}
 use Rattle.genie_base.specs.declared.semantics.Direction.TheVariants as direction
 use Rattle.genie_device.specs.Buffers.{bytes_in, is_arrived, state_at}
 use Rattle.genie_device.specs.Device.{DeviceView}
 use Rattle.genie_frame.specs.FrameTable.{FrameTable}
-use Rattle.genie_object.specs.Sound.{IsSized}
 use Rattle.genie_plan.specs.declared.plan.InPlan.{InPlan}
 use Rattle.genie_plan.specs.Plans.{CanLand, OnlyRange, input_frames, range_bytes}
-use Rattle.genie_store.specs.StoreView.{StoreView}
+use Rattle.genie_region.specs.declared.region.Region.{Region}
 use Rattle.genie_model.specs.Tables.{entry}
 use Rattle.genie_kernel.specs.declared.kernel.Kernel.{Kernel}
 use Rattle.genie_kernel.specs.declared.transfer.Loans.{Loans}
 use Rattle.genie_kernel.specs.declared.transfer.Loans.TheVariants.{Nothing, Outward, Inward}
 use Rattle.genie_kernel.specs.declared.transfer.Transfer.{Transfer}
 use Rattle.genie_kernel.specs.Calls.{has_number, is_strong_call}
-use Rattle.genie_kernel.specs.Good.{IsGood}
-use Rattle.genie_kernel.specs.Kept.{Kept}
 use Rattle.genie_kernel.specs.Regions.{owned_regions}
 use Rattle.genie_kernel.specs.Transfers.{is_outboard_device}
-use Rattle.genie_changes.specs.Paged.{StepsPaged}
+use Rattle.genie_arrivals.specs.declared.outboard.Destination.{Destination}
+use Rattle.genie_arrivals.specs.declared.outboard.Destination.TheVariants.{Gone, Lost, There}
+use Rattle.genie_arrivals.specs.Paging.{EndsPaged}
 use Rattle.genie_arrivals.specs.Replies.{is_there}
 
 -- an input of this class on an outboard device
@@ -39,6 +35,10 @@ pub record IsWeakOutboard (devices : List (Option DeviceView)) (t : Transfer) : 
   pub inward : t.dir ≡ direction.Inward
   pub weak : is_strong_call t ≡ false
   pub outboard : is_outboard_device (entry devices t.dev) ≡ true
+
+-- the pending transfer of this number is such an input of this class
+abbrev pub IsLateOutboard : Class → Kernel → ℕ → Type 0
+IsLateOutboard class k n = IfSome (find (has_number n) k.transfers) (IsOutboardInput class k.devices)
 
 -- an input whose process is there, and the region that it names
 pub record LandsThere (class : Class) (k : Kernel) (t : Transfer) : Type 0 where
@@ -91,15 +91,14 @@ pub record LandsPending (n : ℕ) (old new : Kernel) : Type 0 where
   pub lands : LandsIn transfer.loans (waiting_bytes old.devices transfer) old.memory.frames new.memory.frames
   pub only : new ≡ record old { memory = record (old.memory) { frames = new.memory.frames } }
 
--- the kernel is good, what it stands for and the reply are those of the flat machine's step, whatever the host and the
--- store hold, and no frame is freed or gets another owner while a device holds it
-pub record EndsPaged (old : Kernel) (n : ℕ) (new : Kernel) (reply : Reply) : Type 0 where
-  pub good : IsGood new
-  pub sized : (v : StoreView) → IsSized old.memory v → IsSized new.memory v
-  pub kept : Kept old new
-  pub step : StepsPaged old (Finish n) new reply
-  pub config : new.config ≡ old.config
-  -- nothing fails, the processor moves no byte and takes no page and no frame, and at most the input's bytes land
-  pub unfailed : mark_of reply ≡ NoFault
+-- the input ends so, while the processor moves no byte and takes no page and no frame, and at most its own bytes land
+pub record EndsLanded (old : Kernel) (n : ℕ) (new : Kernel) (reply : Reply) : Type 0 where
+  pub ends : EndsPaged old n new reply
   pub meters : new.memory.frames.meters ≡ old.memory.frames.meters
   pub landed : IfSome (find (has_number n) old.transfers) (λ (t : Transfer). new.memory.frames.landed ≤ old.memory.frames.landed + t.stored)
+
+-- whether its process is gone, or the region that it names is, or its bytes land there
+abbrev pub GoesTo : Destination → List Region → Transfer → Type 0
+GoesTo Gone regions t = t.owner ≡ None
+GoesTo Lost regions t = (is_some t.owner ≡ true) × (is_there regions t ≡ false)
+GoesTo There regions t = (is_some t.owner ≡ true) × (is_there regions t ≡ true)

@@ -12,7 +12,7 @@ use Rattle.genie_kernel.specs.declared.transfer.Transfer.{Transfer}
 use Rattle.genie_kernel.specs.Good.{IsGood}
 use Rattle.genie_kernel.specs.Regions.{has_id, owned_regions, regions_of}
 use Rattle.genie_arrivals.specs.Live.{lively}
-use Rattle.genie_arrivals.specs.Outboard.{EndsPaged, LandsThere}
+use Rattle.genie_arrivals.specs.Outboard.{EndsLanded, LandsThere}
 use Rattle.genie_arrivals.proofs.EndLanded.{between_good, is_over, last, last_settled, moved_landed}
 use Rattle.genie_arrivals.proofs.Found.{found_case, found_over}
 use Rattle.genie_arrivals.proofs.Lively.{found_everywhere}
@@ -68,6 +68,6 @@ returns c =
     let regions : regions_of (entry new.spaces.processes o.pid) ≡ over.had.regions = ap (λ (s : AddressSpaces). regions_of (entry s.processes o.pid)) over.spaces ∙ ap regions_of over.had.there in
     let live : c.make_live.new.kernel ≡ lively end o.pid o.region.id.0 over.had.regions = c.make_live.ensures ∙ (λ i. lively (over.ends.only i) o.pid o.region.id.0 (regions i)) in
     let ended = moved_landed c.end_laws.ensures c.buffers_show.ensures c.buffers_are_released.ensures.ends c.buffers_are_released.ensures.shows k n is.pid t c.requires.good c.requires.accepted ready x.found is.input.inward is.input.outboard weak F x.lands new over.ends is.owner o.region over.had.names there c.change_laws.ensures is.input.class_is o.pid over.had.regions over.had.there over.had.found in
-    subst (λ (j : Kernel). EndsPaged k n j (reply.Input (Some (o.region.start * c.get-page.result)) u.stored u.note)) (sym live)
-    (subst (λ (z : ℕ). EndsPaged k n (lively end o.pid o.region.id.0 over.had.regions) (reply.Input (Some (o.region.start * z)) u.stored u.note)) (sym page)
-    (subst (λ (v : Transfer). EndsPaged k n (lively end o.pid o.region.id.0 over.had.regions) (reply.Input (Some (o.region.start * k.config.page)) v.stored v.note)) (sym over.same) ended))
+    subst (λ (j : Kernel). EndsLanded k n j (reply.Input (Some (o.region.start * c.get-page.result)) u.stored u.note)) (sym live)
+    (subst (λ (z : ℕ). EndsLanded k n (lively end o.pid o.region.id.0 over.had.regions) (reply.Input (Some (o.region.start * z)) u.stored u.note)) (sym page)
+    (subst (λ (v : Transfer). EndsLanded k n (lively end o.pid o.region.id.0 over.had.regions) (reply.Input (Some (o.region.start * k.config.page)) v.stored v.note)) (sym over.same) ended))
