@@ -34,12 +34,15 @@ use Rattle.genie_kernel.specs.Loans.{frames_of}
 use Rattle.genie_kernel.specs.Regions.{owned_regions}
 use Rattle.genie_kernel.specs.Steps.{AloneIsTold, StepsTold, StoreCause, Steps, bytes_over}
 use Rattle.genie_kernel.specs.View.{Bytes, outline, state_of, view}
+use Rattle.genie_kernel.specs.Backed.{AreGuarded}
+use Rattle.genie_kernel.specs.Lemmas.Keeping.{guards_kept}
 use Rattle.genie_kernel.specs.Lemmas.Stepping.{accepted_step}
 use Rattle.genie_changes.specs.Ending.{without_call}
 use Rattle.genie_changes.specs.Making.{IsMoved}
 use Rattle.genie_changes.specs.Paged.{IsPaged, PagedIsTold, StepsPaged}
 use Rattle.genie_changes.specs.Premises.{ShowsPages}
 use Rattle.genie_arrivals.specs.Cases.{IsInputOf}
+use Rattle.genie_arrivals.specs.Paging.{EndsPaged}
 use Rattle.genie_arrivals.specs.CopyLaws.{CopyLaws}
 use Rattle.genie_arrivals.specs.EndLaws.{EndLaws}
 use Rattle.genie_arrivals.specs.Ends.{EndsAlone}
@@ -62,6 +65,7 @@ fault_serves k new v w n accepted moved rose = record {
   good = moved.good;
   sized = moved.sized;
   kept = moved.kept;
+  config = ap (λ (j : Kernel). j.config) moved.only;
   step = λ host. subst (λ x. StepsTold (view k host v) (Finish n) x reply.StoreFault) (sym (moved.told host)) (failed_step k n _ accepted);
   cause = rose;
 }
@@ -72,6 +76,7 @@ alone_serves told k new v n r accepted sized e = record {
   good = e.good;
   sized = e.sized v sized;
   kept = e.kept;
+  config = e.config;
   step = λ host. told k new (Finish n) r host v accepted e.config e.step;
   cause = subst (λ (m : Mark). StoreCause m v.faults v.faults) (sym e.unfailed) refl;
 }
@@ -118,6 +123,9 @@ module _ (laws : EndLaws) (room : CopyLaws) (swap : SwapLaws) (told : PagedIsTol
   silent : All (λ (q : Region). q.writable ≡ false → (i : ℕ) → is_in_range range.object.0 (range.off / mid.memory.frames.page) (span mid.memory.frames.page range.off range.len) q.object.0 i ≡ false) (owned_regions mid.spaces.processes)
   silent j d l shut i = unspoken range.object.0 (range.off / mid.memory.frames.page) (span mid.memory.frames.page range.off range.len) (get_or (owned_regions mid.spaces.processes) j d).object.0 i (range_silent room mid n t range g found taken.is.class_is taken.is.inward taken.target (get_or (owned_regions mid.spaces.processes) j d) (has_at (owned_regions mid.spaces.processes) j d l) shut)
 
+  guarded : AreGuarded m.objects (owned_regions mid.spaces.processes)
+  guarded = guards_kept (is_in_range range.object.0 (range.off / mid.memory.frames.page) (span mid.memory.frames.page range.off range.len)) mid.memory m (owned_regions mid.spaces.processes) stores.touches silent g.guarded
+
   puts : (slots : ℕ → List ℕ) → ((s : ℕ) → length (slots s) ≡ mid.memory.frames.page) → Puts laws room mid n t range g found ready taken.is.early taken.is.class_is taken.is.inward taken.target (seen mid.memory slots).entry_bytes (seen m slots).entry_bytes (seen mid.memory slots).kept_bytes (seen m slots).kept_bytes
   puts slots all =
       let shows = stores.shows slots all in
@@ -131,7 +139,7 @@ module _ (laws : EndLaws) (room : CopyLaws) (swap : SwapLaws) (told : PagedIsTol
       record {
         bytes = record { range = three; others = λ a b ne. shows.objects a b (λ e. ne (e ∙ object)) };
         pages = subst (λ z. ShowsPages z mid.memory (seen mid.memory slots).kept_bytes) g.sized.page (swap.nobody mid.memory slots g.sound.shaped);
-        frames = swap.suffice (owned_regions mid.spaces.processes) new.transfers mid.pools (seen mid.memory slots).kept_bytes (seen m slots).kept_bytes (swapped_frames laws swap mid n t g found ready taken.is.early strong L h.is_loans h.is_frames h.own m range.object.0 range.off range.len stores unhidden silent slots all);
+        frames = swap.suffice (owned_regions mid.spaces.processes) new.transfers mid.pools (seen mid.memory slots).kept_bytes (seen m slots).kept_bytes (swapped_frames laws swap mid n t g found ready taken.is.early strong L h.is_loans h.is_frames h.own m range.object.0 range.off range.len stores unhidden guarded slots all);
       }
 
   steps_paged : StepsPaged mid (Finish n) new answer
@@ -145,9 +153,21 @@ module _ (laws : EndLaws) (room : CopyLaws) (swap : SwapLaws) (told : PagedIsTol
   stored_serves =
       let refused = refused_alike k mid v w n moved accepted in
       record {
-        good = laws.good new (swapped_settled laws swap mid n t g found ready taken.is.early strong L h.is_loans h.is_frames h.own m range.object.0 range.off range.len stores unhidden silent) (orderly_after laws room mid n t range g found ready taken.is.early taken.is.class_is taken.is.inward taken.target m refused);
+        good = laws.good new (swapped_settled laws swap mid n t g found ready taken.is.early strong L h.is_loans h.is_frames h.own m range.object.0 range.off range.len stores unhidden guarded) (orderly_after laws room mid n t range g found ready taken.is.early taken.is.class_is taken.is.inward taken.target m refused);
         sized = record { count = moved.sized.count ∙ sym stores.keeps.slots; page = moved.sized.page ∙ sym stores.keeps.page };
-        kept = room.kept k mid new v w moved (swapped_kept laws swap mid n t g found ready taken.is.early strong L h.is_loans h.is_frames h.own m range.object.0 range.off range.len stores unhidden silent);
+        kept = room.kept k mid new v w moved (swapped_kept laws swap mid n t g found ready taken.is.early strong L h.is_loans h.is_frames h.own m range.object.0 range.off range.len stores unhidden guarded);
+        config = ap (λ (j : Kernel). j.config) moved.only;
         step = λ host. subst (λ s. StepsTold s (Finish n) (view new host w) answer) (moved.told host) (told mid new (Finish n) answer host w refused refl moved.sized paged steps_paged);
         cause = faults;
       }
+
+-- the same over slots that have a page each
+pub paged_serves : PagedIsTold → (k new : Kernel) (v : StoreView) (n : ℕ) (r : Reply) → refuse (outline k) (Finish n) ≡ None → IsSized k.memory v → IsPaged v → EndsPaged k n new r → Serves k (Finish n) new v v r
+paged_serves told k new v n r accepted sized paged e = record {
+  good = e.good;
+  sized = e.sized v sized;
+  kept = e.kept;
+  config = e.config;
+  step = λ host. told k new (Finish n) r host v accepted e.config sized paged e.step;
+  cause = subst (λ (m : Mark). StoreCause m v.faults v.faults) (sym e.unfailed) refl;
+}

@@ -72,7 +72,7 @@ use Rattle.genie_arrivals.proofs.Zeros.{zeros_dropped, zeros_each, zeros_overlai
 abbrev pub payload : (ℕ → List ℕ) → Transfer → List ℕ
 payload s t = take t.stored (lent_bytes s t)
 
-payload_is : (k : Kernel) (b : Bytes) (t : Transfer) → t.dir ≡ direction.Inward → t.buffer ≡ None → is_strong_call t ≡ true → (seen_as k b t).payload ≡ payload b.seen.kept_bytes t
+pub payload_is : (k : Kernel) (b : Bytes) (t : Transfer) → t.dir ≡ direction.Inward → t.buffer ≡ None → is_strong_call t ≡ true → (seen_as k b t).payload ≡ payload b.seen.kept_bytes t
 payload_is k b t inward none strong =
     ap (payload_of b.seen.kept_bytes k.devices k.pools (first_waiting k.transfers) t) inward
     ∙ ap (input_bytes b.seen.kept_bytes k.devices k.pools t) none
@@ -155,11 +155,11 @@ copy_lost k b n p t found owner inward class none =
     ∙ ap (finish_copy s (seen_as k b t)) (ap (λ a. model.write_reach_of (state_of k b) p a t.len) at ∙ write_view k b p t.addr t.len ∙ ap (option_map (region_view b.seen.entry_bytes)) none)
 
 -- frames that show their bytes, one after the other
-shown_joined : (kept : ℕ → List ℕ) (t : FrameTable) (frames : List ℕ) → ((j : ℕ) → j < length frames → kept (get_or frames j 0) ≡ bytes_at t (get_or frames j 0)) → flat_map kept frames ≡ joined t.bytes frames
+pub shown_joined : (kept : ℕ → List ℕ) (t : FrameTable) (frames : List ℕ) → ((j : ℕ) → j < length frames → kept (get_or frames j 0) ≡ bytes_at t (get_or frames j 0)) → flat_map kept frames ≡ joined t.bytes frames
 shown_joined kept t [] h = refl
 shown_joined kept t (f ∷ frames) h = ap₂ ◌++◌ (h 0 (omega arith)) (shown_joined kept t frames (λ j l. h (suc j) (omega (arith, l))))
 
-take_less : (m n : ℕ) (xs : List ℕ) → m ≤ n → take m (take n xs) ≡ take m xs
+pub take_less : (m n : ℕ) (xs : List ℕ) → m ≤ n → take m (take n xs) ≡ take m xs
 take_less zero n xs l = refl
 take_less (suc m) zero xs l = absurd (omega (arith, l))
 take_less (suc m) (suc n) [] l = refl

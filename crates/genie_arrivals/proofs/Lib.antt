@@ -4,6 +4,12 @@ mod Replying
 mod Alone
 mod Lent
 mod Quiet
+mod Buffered
+mod Blank
+mod WeakPlan
+mod Landing
+mod EndLanded
+mod Unlanded
 mod Lively
 mod Reaching
 mod Readying
@@ -14,4 +20,9 @@ mod Zeros
 mod Finishing
 mod Paging
 mod Closing
+mod Forbidding
+mod Emptying
+mod Unheld
+mod Filling
+mod Filled
 mod Moving

@@ -27,7 +27,7 @@ module _ (s t : ℕ → ℕ → List ℕ) (n : ℕ) (f : flat.Region → flat.Re
   process_put None q h = refl
   process_put (Some rs) q h = ap (λ rows. Some (record { queue = q; regions = rows })) (regions_put rs h)
 
-  processes_put : (ps : List (Option (List Region))) (qs : List (List ℕ)) → ((r : Region) → Has r (owned_regions ps) → region_view t r ≡ changed n f (region_view s r)) → processes_view t ps qs ≡ map (change_process (changed_in n f)) (processes_view s ps qs)
+  pub processes_put : (ps : List (Option (List Region))) (qs : List (List ℕ)) → ((r : Region) → Has r (owned_regions ps) → region_view t r ≡ changed n f (region_view s r)) → processes_view t ps qs ≡ map (change_process (changed_in n f)) (processes_view s ps qs)
   processes_put [] qs h = refl
   processes_put (p ∷ ps) [] h = ap₂ ◌∷◌ (process_put p [] (λ r i. h r (has_left r (regions_of p) (owned_regions ps) i))) (processes_put ps [] (λ r i. h r (has_right r (regions_of p) (owned_regions ps) i)))
   processes_put (p ∷ ps) (q ∷ qs) h = ap₂ ◌∷◌ (process_put p q (λ r i. h r (has_left r (regions_of p) (owned_regions ps) i))) (processes_put ps qs (λ r i. h r (has_right r (regions_of p) (owned_regions ps) i)))

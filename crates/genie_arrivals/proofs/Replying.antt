@@ -12,13 +12,13 @@ use Rattle.genie_base.specs.declared.reply.Reply.{Reply}
 use Rattle.genie_base.specs.declared.reply.Reply.TheVariants as reply
 use Rattle.genie_base.specs.declared.region.RegionState.TheVariants.{Live}
 use Rattle.genie_base.specs.declared.semantics.Class.{Class}
-use Rattle.genie_base.specs.declared.semantics.Class.TheVariants.{Share, WeakMove}
+use Rattle.genie_base.specs.declared.semantics.Class.TheVariants.{Move, Share, WeakMove}
 use Rattle.genie_base.specs.declared.semantics.Direction.TheVariants.{Inward}
 use Rattle.genie_device.specs.Device.{DeviceView}
 use Rattle.genie_input.specs.Pools.{PoolState}
 use Rattle.genie_region.specs.declared.region.Region.{Region}
 use Rattle.genie_orderly.specs.Lemmas.FoundRegions.{all_of, region_found}
-use Rattle.genie_model.specs.Ending.{without_transfer, region_of, finish, finish_found, finish_for, finish_owned, finish_input, finish_share, finish_weak_move}
+use Rattle.genie_model.specs.Ending.{without_transfer, region_of, finish, finish_found, finish_for, finish_owned, finish_input, finish_move, finish_share, finish_weak_move}
 use Rattle.genie_model.specs.Pending.{is_early_at, early_device}
 use Rattle.genie_model.specs.Regions.{address_of, change_region, is_region, put, region_numbered, with_state}
 use Rattle.genie_model.specs.Space.{tidy}
@@ -142,3 +142,8 @@ weak_moved k b n p t r found owner inward is early names there =
     input_finish k b n p t WeakMove found owner inward is
     ∙ ap (finish_weak_move s v) (ap (option_and_then (region_numbered (state_of k b))) names ∙ numbered_view k b r.id.0 ∙ ap (option_map (region_view b.seen.entry_bytes)) there)
     ∙ moved s v (region_view b.seen.entry_bytes r) (early_view k b t.dev ∙ early)
+
+-- a move input whose region is gone
+pub move_lost : (k : Kernel) (b : Bytes) (n p : ℕ) (t : Transfer) → find (has_number n) k.transfers ≡ Some t → t.owner ≡ Some p → t.dir ≡ Inward → class_of t.sem ≡ Move → is_there (owned_regions k.spaces.processes) t ≡ false → finish (state_of k b) n ≡ outcome (without_transfer (state_of k b) n) reply.Lost
+move_lost k b n p t found owner inward is gone =
+    input_finish k b n p t Move found owner inward is ∙ ap (finish_move (without_transfer (state_of k b) n) (seen_as k b t)) (none_of (region_of (state_of k b) (seen_as k b t)) (there_view k b t ∙ gone))

@@ -1,6 +1,6 @@
 -- The kernel without a strong input whose buffer was stored.
 use Rattle.std.proofs.Common.{◌≡◌, ◌≢◌, ℕ, ◌+◌, ◌-◌, ◌<◌, ◌≤◌, Bool, true, false, not, cond, List, [], ◌∷◌, refl, sym, ap, subst, arith, rules, ◌∙◌, length, map, get_or, ⊎_elim, inl, inr, ◌/◌, ◌*◌, eq-eqb}
-use Rattle.std.specs.Prelude.{Option, Some, None, All, AllPairs, IfSome, find, filter, ◌⊎◌, ◌==◌, ◌&&◌, if◌then◌else◌}
+use Rattle.std.specs.Prelude.{Option, Some, None, AllPairs, IfSome, find, filter, ◌⊎◌, ◌==◌, ◌&&◌, if◌then◌else◌}
 use Rattle.std.specs.List.{list_any}
 use Rattle.std.proofs.lemmas.Bool.{cases_Bool}
 use Rattle.std.proofs.lemmas.List.Kept.{AllPairs-cons}
@@ -44,7 +44,7 @@ use Rattle.genie_kernel.specs.Planned.{AreItsOwn, is_early_device}
 use Rattle.genie_kernel.specs.Regions.{has_id, owned_regions}
 use Rattle.genie_kernel.specs.Same.{SameFrames, ShowSame}
 use Rattle.genie_kernel.specs.Lemmas.Beside.{all_without, find_beside}
-use Rattle.genie_kernel.specs.Lemmas.Keeping.{guards_kept, transfer_lent}
+use Rattle.genie_kernel.specs.Lemmas.Keeping.{transfer_lent}
 use Rattle.genie_kernel.specs.Lemmas.Lending.{counts_shrink}
 use Rattle.genie_kernel.specs.Lemmas.Owning.{owned_less}
 use Rattle.genie_kernel.specs.Lemmas.Staying.{lent_true, pool_same, system_same, weak_held, weak_there}
@@ -117,7 +117,7 @@ absent_same [] (y ∷ b) e = absurd (omega (arith, e))
 absent_same (x ∷ a) [] e = absurd (omega (arith, e))
 absent_same (x ∷ a) (y ∷ b) e = refl
 
-module _ (laws : EndLaws) (swap : SwapLaws) (k : Kernel) (n : ℕ) (t : Transfer) (g : IsGood k) (found : find (has_number n) k.transfers ≡ Some t) (ready : is_ready t.phase ≡ true) (early : is_early_device (entry k.devices t.dev) ≡ true) (strong : is_strong_call t ≡ true) (L : List InLoan) (is_loans : loans_of t.loans ≡ input_loans L) (is_frames : frames_of t.loans ≡ input_frames L) (own : AreItsOwn k.memory.frames.owners n (frames_of t.loans)) (m : Memory) (o off len : ℕ) (x : StoresBuffer k.memory m o off len (frames_of t.loans)) (unhidden : (a i : ℕ) → is_among a (objects_of k.hidden) ≡ true → is_in_range o (off / k.memory.frames.page) (span k.memory.frames.page off len) a i ≡ false) (silent : All (λ (r : Region). r.writable ≡ false → (i : ℕ) → is_in_range o (off / k.memory.frames.page) (span k.memory.frames.page off len) r.object.0 i ≡ false) (owned_regions k.spaces.processes)) where
+module _ (laws : EndLaws) (swap : SwapLaws) (k : Kernel) (n : ℕ) (t : Transfer) (g : IsGood k) (found : find (has_number n) k.transfers ≡ Some t) (ready : is_ready t.phase ≡ true) (early : is_early_device (entry k.devices t.dev) ≡ true) (strong : is_strong_call t ≡ true) (L : List InLoan) (is_loans : loans_of t.loans ≡ input_loans L) (is_frames : frames_of t.loans ≡ input_frames L) (own : AreItsOwn k.memory.frames.owners n (frames_of t.loans)) (m : Memory) (o off len : ℕ) (x : StoresBuffer k.memory m o off len (frames_of t.loans)) (unhidden : (a i : ℕ) → is_among a (objects_of k.hidden) ≡ true → is_in_range o (off / k.memory.frames.page) (span k.memory.frames.page off len) a i ≡ false) (guarded : AreGuarded m.objects (owned_regions k.spaces.processes)) where
   abbrev ts : List Transfer
   ts = k.transfers
 
@@ -165,9 +165,9 @@ module _ (laws : EndLaws) (swap : SwapLaws) (k : Kernel) (n : ℕ) (t : Transfer
   system_its f e =
       let h = holder_in n f ts (g.owners.system f n e) in
       let same : h.u ≡ t = ⊎_elim
-          (λ (is : h.u ≡ t). is)
-          (λ (later : Has h.u us). absurd (others_differ n ts t settled.rising found h.u later h.number))
-          (among h.u h.there) in
+      (λ (is : h.u ≡ t). is)
+      (λ (later : Has h.u us). absurd (others_differ n ts t settled.rising found h.u later h.number))
+      (among h.u h.there) in
       counted_some f fs (sym (ap (has_frame f) same) ∙ h.on)
     where
       among : (u : Transfer) → Has u ts → (u ≡ t) ⊎ Has u us
@@ -182,9 +182,6 @@ module _ (laws : EndLaws) (swap : SwapLaws) (k : Kernel) (n : ℕ) (t : Transfer
 
   cached : FitsHidden m (objects_of k.hidden)
   cached = fits_kept (is_in_range o (off / k.memory.frames.page) (span k.memory.frames.page off len)) k.memory m (objects_of k.hidden) g.sound x.touches x.keeps.entries unhidden g.cached
-
-  guarded : AreGuarded m.objects rs
-  guarded = guards_kept (is_in_range o (off / k.memory.frames.page) (span k.memory.frames.page off len)) k.memory m rs x.touches silent g.guarded
 
   without_as : (f j : ℕ) (c : Counts) → times fs f ≡ j → without_loans t f c ≡ record c { input = c.input - j }
   without_as f j c e =
@@ -337,7 +334,7 @@ module _ (laws : EndLaws) (swap : SwapLaws) (k : Kernel) (n : ℕ) (t : Transfer
           let on : pool_on f (entry k.pools d) ≡ times (input_frames q.loans) f = ap (pool_on f) e in
           let owner = g.owners.pool_frames f d (omega (arith, some, on)) in
           let none : times fs f ≡ 0 = ⊎_elim
-              (λ (its : 0 < times fs f). let clash : System n ≡ Pool d = sym (its_own f its) ∙ owner in absurd (cc))
-              (λ (none : times fs f ≡ 0). none)
-              (some_or (times fs f)) in
+          (λ (its : 0 < times fs f). let clash : System n ≡ Pool d = sym (its_own f its) ∙ owner in absurd (cc))
+          (λ (none : times fs f ≡ 0). none)
+          (some_or (times fs f)) in
           (x.shows slots paged).others f none

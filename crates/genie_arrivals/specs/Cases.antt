@@ -1,5 +1,5 @@
 -- The inputs that end, by case.
-use Rattle.std.specs.Prelude.{◌≡◌, ℕ, true, List, find, Option, None, IfSome}
+use Rattle.std.specs.Prelude.{◌≡◌, ℕ, true, List, find, Option, IfSome}
 use Rattle.genie_base.specs.Transfers.{class_of}
 use Rattle.genie_base.specs.declared.semantics.Class.{Class}
 use Rattle.genie_base.specs.declared.semantics.Direction.TheVariants.{Inward}
@@ -20,11 +20,10 @@ pub record IsInputOf (class : Class) (devices : List (Option DeviceView)) (t : T
 abbrev pub IsEarlyInput : Class → Kernel → ℕ → Type 0
 IsEarlyInput class k n = IfSome (find (has_number n) k.transfers) (IsInputOf class k.devices)
 
--- an input on an early device whose process is gone
-pub record IsGoneInput (devices : List (Option DeviceView)) (t : Transfer) : Type 0 where
+-- an input on an early device, of whatever class
+pub record IsAnyInput (devices : List (Option DeviceView)) (t : Transfer) : Type 0 where
   pub inward : t.dir ≡ Inward
-  pub gone : t.owner ≡ None
   pub early : is_early_device (entry devices t.dev) ≡ true
 
-abbrev pub IsEarlyGone : Kernel → ℕ → Type 0
-IsEarlyGone k n = IfSome (find (has_number n) k.transfers) (IsGoneInput k.devices)
+abbrev pub IsOnEarly : Kernel → ℕ → Type 0
+IsOnEarly k n = IfSome (find (has_number n) k.transfers) (IsAnyInput k.devices)

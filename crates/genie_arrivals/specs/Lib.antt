@@ -10,3 +10,7 @@ pub mod CopyLaws
 pub mod Stored
 pub mod SwapLaws
 pub mod Failing
+pub mod Clearing
+pub mod Paging
+pub mod Waiting
+pub mod Outboard

@@ -2,13 +2,21 @@
 #![tactic(auto)]
 
 mod back;
+mod clear;
 pub mod copy;
-pub mod gone;
+mod fill;
+pub mod finish;
+pub mod held;
 mod laws;
 mod live;
+pub mod outboard;
 mod owned;
+mod release;
 mod room;
 pub mod share;
 mod store;
 mod target;
+pub mod waiting;
 pub mod weak_move;
+
+pub use crate::finish::finish_input_early;

@@ -1,3 +1,5 @@
 pub mod Ending
 pub mod Pools
 pub mod Closed
+pub mod Serving
+pub mod Handles

@@ -1,5 +1,10 @@
 //! The kernel's calls.
 #![tactic(auto)]
 
+mod access;
 pub mod close;
+mod devices;
+mod endings;
 mod laws;
+mod spaces;
+mod transfers;

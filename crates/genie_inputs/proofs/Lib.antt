@@ -3,12 +3,15 @@ mod Answered
 mod Buffered
 mod Copying
 mod Enlarged
+mod Filling
+mod Finding
 mod Holding
 mod Lending
 mod MovedIn
 mod Placing
 mod Readied
 mod Refilling
+mod Renewed
 mod Sharing
 mod Targeting
 mod Weakly

@@ -42,7 +42,7 @@ module _ (s : ℕ → ℕ → List ℕ) (n : ℕ) where
   none_changed [] e = refl
   none_changed (r ∷ rs) e = let both = or_parts (has_id n r) (list_any (has_id n) rs) e in ap₂ ◌∷◌ (ap (λ b. if b then filled_region r else r) both.0) (none_changed rs both.1)
 
-  none_listed : (q : List ℕ) → list_any (λ m. m == n) q ≡ false → unlisted n q ≡ q
+  pub none_listed : (q : List ℕ) → list_any (λ m. m == n) q ≡ false → unlisted n q ≡ q
   none_listed [] e = refl
   none_listed (x ∷ q) e = elim (x == n) as (λ b. (b || list_any (λ m. m == n) q) ≡ false → cond (not b) (x ∷ unlisted n q) (unlisted n q) ≡ x ∷ q) [
     | true ↦ λ h. absurd (cc)

@@ -1,12 +1,14 @@
 -- Where the new region of an input is to be.
-use Rattle.std.proofs.Common.{◌≡◌, ◌≢◌, ℕ, ◌+◌, ◌-◌, ◌/◌, ◌<◌, ◌≤◌, suc, Bool, true, false, not, List, [], sym, ap, subst, arith, ◌∙◌, length}
-use Rattle.std.specs.Prelude.{None, All, is_some, count_by, if◌then◌else◌}
+use Rattle.std.proofs.Common.{◌≡◌, ◌≢◌, ℕ, ◌+◌, ◌-◌, ◌/◌, ◌<◌, ◌≤◌, suc, Bool, true, false, not, cond, List, [], ◌∷◌, refl, sym, ap, subst, arith, rules, ◌∙◌, length}
+use Rattle.std.specs.Prelude.{Some, None, All, find, is_some, count_by, if◌then◌else◌}
 use Rattle.std.specs.List.{list_any, range_with_len}
 use Rattle.std.proofs.lemmas.Bool.{not-false}
 use Rattle.genie_base.specs.Regions.{is_free, place}
 use Rattle.genie_base.specs.Transfers.{class_of}
+use Rattle.std.specs.Option.{option_map}
+use Rattle.genie_base.specs.declared.event.Event.TheVariants.{Alloc}
 use Rattle.genie_base.specs.declared.refusal.Refusal.{Refusal}
-use Rattle.genie_base.specs.declared.refusal.Refusal.TheVariants.{Proc}
+use Rattle.genie_base.specs.declared.refusal.Refusal.TheVariants.{Proc, Range}
 use Rattle.genie_base.specs.declared.semantics.Class.{Class}
 use Rattle.genie_base.specs.declared.semantics.Class.TheVariants.{Copy, Share, Move, WeakMove}
 use Rattle.genie_object.specs.Lemmas.Lookup.{in_range}
@@ -15,8 +17,8 @@ use Rattle.genie_region.specs.Layouts.{extent, region_of}
 use Rattle.genie_model.specs.Inputs.{pages_for}
 use Rattle.genie_model.specs.Lemmas.Causes.{Fails, both_none, none_holds}
 use Rattle.genie_model.specs.Lemmas.Lists.{find_has, find_none, none_from, none_has}
-use Rattle.genie_model.specs.Refusing.{refuse, first_cause, must_make, new_region_causes, target_causes}
-use Rattle.genie_model.specs.Regions.{place_of}
+use Rattle.genie_model.specs.Refusing.{refuse, first_cause, is_within, must_make, new_region_causes, target_causes}
+use Rattle.genie_model.specs.Regions.{is_alive, place_of}
 use Rattle.genie_model.specs.State as flat
 use Rattle.genie_model.specs.Tables.{entry}
 use Rattle.genie_orderly.specs.Lemmas.AcceptedEvents.{input_accepted}
@@ -86,3 +88,25 @@ pub object_room : ObjectsSuffice → (h : Kernel) (p : ℕ) → IsGood h → is_
 object_room law h p good alive room =
     let below = in_range h.spaces.processes p None (λ none. let bad : true ≡ false = sym alive ∙ ap is_some none in cc) in
     law h.memory.objects h.spaces.processes h.hidden good.backed good.few good.spaced.processes p (let size = good.spaced.processes in omega (arith, below, size)) room
+
+cause_later : (x : Bool × Refusal) (rows : List (Bool × Refusal)) → x.0 ≡ false → first_cause rows ≡ None → first_cause (x ∷ rows) ≡ None
+cause_later x rows e h = ap (λ b. option_map (λ (row : Bool × Refusal). row.1) (cond b (Some x) (find (λ (row : Bool × Refusal). row.0) rows))) e ∙ h
+
+none_first : (rows : List (Bool × Refusal)) → All Fails rows → first_cause rows ≡ None
+none_first [] h = refl
+none_first (x ∷ rows) h = cause_later x rows (h 0 x (omega arith)) (none_first rows (λ i d l. h (suc i) d (omega (arith, l))))
+
+within : (n : ℕ) → 1 ≤ n → n ≤ 64 → not (is_within 1 64 n) ≡ false
+within n some most = grind (arith, rules, some, most)
+
+-- an alloc of as many pages isn't refused
+pub may_alloc : (k : Kernel) (c : Call) → IsGood k → refuse (outline k) (input_event c None) ≡ None → must_make (outline k) c.pid (class_of c.sem) c.len ≡ true → refuse (outline k) (Alloc c.pid ((c.len + k.config.page - 1) / k.config.page)) ≡ None
+may_alloc k c good accepted made =
+    let s = outline k in
+    let n : ℕ = (c.len + k.config.page - 1) / k.config.page in
+    let both = both_none (target_causes s c.pid (class_of c.sem) c.dev 0 c.len) _ accepted in
+    let dead = none_holds (target_causes s c.pid (class_of c.sem) c.dev 0 c.len) both.0 0 (true, Proc) (omega arith) in
+    let may = may_place k c good accepted made in
+    let rows = place_causes s c.pid (class_of c.sem) c.dev 0 c.len both.0 made in
+    cause_later (not (is_alive s c.pid), Proc) ((not (is_within 1 64 n), Range) ∷ new_region_causes s c.pid n) dead
+    (cause_later (not (is_within 1 64 n), Range) (new_region_causes s c.pid n) (within n may.some may.most) (none_first (new_region_causes s c.pid n) rows))

@@ -138,7 +138,7 @@ weak_within k c r good owned pages =
     let within = pages_within k.config.page 0 c.len (pages_of k c) (page_some k good) (omega (arith, whole)) in
     omega (arith, long, within, pages)
 
-weak_whole : (c : Call) → class_of c.sem ≡ WeakMove → IsTrue (is_whole (input_event c None))
+pub weak_whole : (c : Call) → class_of c.sem ≡ WeakMove → IsTrue (is_whole (input_event c None))
 weak_whole c is = subst (λ (class : Class). IsTrue (has_one (is_system class) false)) (sym is) refl
 
 refill_does : (k : Kernel) (c : Call) (r : Region) (loans : Loans) → class_of c.sem ≡ WeakMove → is_some (entry k.spaces.processes c.pid) ≡ true → IsReusable k c r → (b : Bytes) (s : ℕ → List ℕ) → ◌≡◌ {A = Outcome} (tidied (input (state_of k b) c.pid (class_of c.sem) (record { device = c.dev; port = c.port; flow = c.flow }) None c.len)) (tidy (add_transfer (inputs.moved_in (state_of k b) r.id.0) (begun s (transfer_of c (record { 0 = k.next }) 0 (Some r.id) 0 loans))), reply.Id k.next)

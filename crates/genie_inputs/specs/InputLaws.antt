@@ -5,7 +5,7 @@ use Rattle.genie_changes.specs.Regions.{SpacedStay}
 use Rattle.genie_changes.specs.Removing.{GoodIsListedIn, GoodIsOnlyIn, GoodRegionsFit, GoodTransfersRise}
 use Rattle.genie_changes.specs.States.{AddedState}
 use Rattle.genie_room.specs.Frames.{CallsCanBegin}
-use Rattle.genie_changes.specs.Beginning.{PartsMakeGood, NewWaitsBehind, BegunHasParts, BegunIsKept, WeakBegins}
+use Rattle.genie_changes.specs.Beginning.{GoodHasParts, PartsMakeGood, NewWaitsBehind, BegunHasParts, BegunIsKept, WeakBegins}
 
 -- what a transfer more leaves of the state and of what is true of a kernel
 pub record InputLaws : Type 0 where
@@ -20,6 +20,7 @@ pub record InputLaws : Type 0 where
   pub alone : AloneIsTold
   pub added : AddedState
   pub made : PartsMakeGood
+  pub has : GoodHasParts
   pub waits : NewWaitsBehind
   pub parts : BegunHasParts
   pub kept : BegunIsKept

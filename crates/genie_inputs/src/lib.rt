@@ -4,12 +4,15 @@
 mod buffer;
 pub mod call;
 pub mod copy;
+pub mod fill;
 pub mod hold;
 mod in_place;
+pub mod input;
 mod laws;
 mod place;
 mod posting;
 pub mod refill;
+mod reuse;
 mod room;
 pub mod share;
 mod target;

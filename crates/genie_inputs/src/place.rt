@@ -28,7 +28,7 @@ pub(crate) struct Placement {
 }
 
 // How many pages so many bytes need.
-fn pages_for(page: u32, len: u32) -> u32
+pub(crate) fn pages_for(page: u32, len: u32) -> u32
     requires some { 0 < page }
     requires fits { len + page < 2 ^ 32 }
     ensures { result ≡ (len + page - 1) / page }

@@ -43,18 +43,18 @@ use Rattle.genie_receiving.specs.Early.{IsWithin, IsWithinAt, IsOutside, IsOutsi
 use Rattle.genie_receiving.specs.Gathering.{IsBetween, GathersHeader, DropsRecord, dropped}
 use Rattle.genie_receiving.specs.Landing.{SkipsPayload}
 use Rattle.genie_receiving.specs.Receiving.{Receives, input_of}
-use Rattle.genie_receiving.proofs.Accepted.{may_receive}
-use Rattle.genie_receiving.proofs.Bytes.{append_none}
-use Rattle.genie_receiving.proofs.Gathered.{gathered_device, gathered_reply, gathered_receives, early_kind, handle_is, IsSkipped}
-use Rattle.genie_receiving.proofs.Good.{device_good, early_unpooled}
-use Rattle.genie_receiving.proofs.Kept.{kept_alone}
-use Rattle.genie_receiving.proofs.Landed.{HasMoved, caused_body, ending_body, has_moved, replied, the_datagram, unbuffered}
-use Rattle.genie_receiving.proofs.Marking.{plain_steps, rest_same, zeros_with, zeros_rest, orderly_behind}
-use Rattle.genie_receiving.proofs.Matched.{EndsPayload, after_moving, moving_keeps}
+use Rattle.genie_receiving.specs.Lemmas.Accepted.{may_receive}
+use Rattle.genie_receiving.specs.Lemmas.Bytes.{append_none}
+use Rattle.genie_receiving.specs.Lemmas.Gathered.{gathered_device, gathered_reply, gathered_receives, early_kind, handle_is, IsSkipped}
+use Rattle.genie_receiving.specs.Lemmas.Good.{device_good, early_unpooled}
+use Rattle.genie_receiving.specs.Lemmas.Kept.{kept_alone}
+use Rattle.genie_receiving.specs.Lemmas.Landed.{HasMoved, caused_body, ending_body, has_moved, replied, the_datagram, unbuffered}
+use Rattle.genie_receiving.specs.Lemmas.Marking.{plain_steps, rest_same, zeros_with, zeros_rest, orderly_behind}
+use Rattle.genie_receiving.specs.Lemmas.Matched.{EndsPayload, after_moving, moving_keeps}
 use Rattle.genie_receiving.proofs.Begun.{beginning}
 use Rattle.genie_receiving.proofs.Matching.{begun_device, early_free, early_kept, not_full, set_again}
 use Rattle.genie_receiving.proofs.Skipping.{skipping_steps}
-use Rattle.genie_receiving.proofs.Within.{body_reply}
+use Rattle.genie_receiving.specs.Lemmas.Within.{body_reply}
 
 -- the device is bad
 recv_of_bad : (s : flat.State) (d n : ℕ) (v : flat.Device) → entry s.devices d ≡ Some v → v.is_bad ≡ true → recv s d n ≡ (s, reply.Bad)
@@ -65,9 +65,7 @@ bad_receives k d n v host good there bad = record {
   good = good;
   kept = kept_alone k k good refl refl;
   config = refl;
-  page = refl;
-  slots = refl;
-  meters = refl;
+  memory = refl;
   landed = omega arith;
   taken = [];
   ended = false;
@@ -181,9 +179,7 @@ skipping_receives law k d n len old now devices r good accepted at receives x =
       good = device_good k d v w good there (moving_keeps course g count v v itself) filling (no_receiver w.present (receiver k.transfers d) receives) orderly;
       kept = kept_alone k new good refl refl;
       config = refl;
-      page = refl;
-      slots = refl;
-      meters = refl;
+      memory = refl;
       landed = omega arith;
       taken = m.taken;
       ended = over.ended;

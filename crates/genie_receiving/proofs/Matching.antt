@@ -56,22 +56,22 @@ use Rattle.genie_receiving.specs.Gathering.{IsBetween, GathersHeader}
 use Rattle.genie_receiving.specs.Landing.{ReceivesInto, work_of}
 use Rattle.genie_receiving.specs.Laws.{ReceiveLaws}
 use Rattle.genie_receiving.specs.Payload.{MovesPayload}
-use Rattle.genie_receiving.specs.Receiving.{Receives, input_of}
+use Rattle.genie_receiving.specs.Receiving.{Receives, input_of, with_landed}
 use Rattle.genie_receiving.proofs.Begun.{begun_steps, begun_kernel, beginning, work_begun}
-use Rattle.genie_receiving.proofs.Bytes.{append_none}
-use Rattle.genie_receiving.proofs.Flat.{whole_true}
-use Rattle.genie_receiving.proofs.Gathered.{IsFree, early_kind, first_met, handle_is, judged_whole}
-use Rattle.genie_receiving.proofs.Good.{configured, input_good, landed_good, none_received, with_landed}
-use Rattle.genie_receiving.proofs.Inputs.{is_met}
-use Rattle.genie_receiving.proofs.Kept.{kept_worked}
-use Rattle.genie_receiving.proofs.Landed.{HasMoved, LandingsShow, bufferless, caused_body, ending_body, good_page, has_moved, only_landed, replied, stored_now, unposted, unqueued}
-use Rattle.genie_receiving.proofs.Marking.{zeros_with, zeros_rest, orderly_behind}
-use Rattle.genie_receiving.proofs.Matched.{EndsPayload, after_moving, moving_keeps, received_kernel}
-use Rattle.genie_receiving.proofs.Payloads.{ShowsLanded, work_on}
-use Rattle.genie_receiving.proofs.Ready.{HasRange, plan_of}
-use Rattle.genie_receiving.proofs.Views.{found_now}
-use Rattle.genie_receiving.proofs.Within.{body_reply}
-use Rattle.genie_receiving.proofs.Zeros.{shows_zeros}
+use Rattle.genie_receiving.specs.Lemmas.Bytes.{append_none}
+use Rattle.genie_receiving.specs.Lemmas.Flat.{whole_true}
+use Rattle.genie_receiving.specs.Lemmas.Gathered.{IsFree, early_kind, first_met, handle_is, judged_whole}
+use Rattle.genie_receiving.specs.Lemmas.Good.{configured, input_good, landed_good, none_received}
+use Rattle.genie_receiving.specs.Lemmas.Inputs.{is_met}
+use Rattle.genie_receiving.specs.Lemmas.Kept.{kept_worked}
+use Rattle.genie_receiving.specs.Lemmas.Landed.{HasMoved, LandingsShow, bufferless, caused_body, ending_body, good_page, has_moved, only_landed, replied, stored_now, unposted, unqueued}
+use Rattle.genie_receiving.specs.Lemmas.Marking.{zeros_with, zeros_rest, orderly_behind}
+use Rattle.genie_receiving.specs.Lemmas.Matched.{EndsPayload, after_moving, moving_keeps, received_kernel}
+use Rattle.genie_receiving.specs.Lemmas.Payloads.{ShowsLanded, work_on}
+use Rattle.genie_receiving.specs.Lemmas.Ready.{HasRange, plan_of}
+use Rattle.genie_receiving.specs.Lemmas.Views.{found_now}
+use Rattle.genie_receiving.specs.Lemmas.Within.{body_reply}
+use Rattle.genie_receiving.specs.Lemmas.Zeros.{shows_zeros}
 
 never_busy : (a e c : Bool) → e ≡ true → (a && not e && c) ≡ false
 never_busy true true c h = refl
@@ -205,9 +205,7 @@ matching_receives laws k mid new d n number moved_header h old middle now r good
           (stored_now course g count hh.len v1 t (receiver (worked (has_number number) work k.transfers) d) still) orderly);
       kept = kept_worked (has_number number) work k new good only.owners transfers;
       config = ap (λ (y : Kernel). y.config) x.only ∙ ap (λ (y : Kernel). y.config) mid_is;
-      page = only.page;
-      slots = lands.slots;
-      meters = only.meters;
+      memory = memory;
       landed = landed_most new.memory.frames.landed k.memory.frames.landed mid.memory.frames.landed (length header) n (ap (λ (y : Memory). y.frames.landed) same_memory) x.lands.most within;
       taken = header ++ m.taken;
       ended = over.ended;

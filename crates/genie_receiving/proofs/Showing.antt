@@ -24,7 +24,7 @@ use Rattle.genie_kernel.specs.Transfers.{transfer_view}
 use Rattle.genie_kernel.specs.View.{Bytes, no_bytes, outline, state_of}
 use Rattle.genie_receiving.specs.Receiving.{ArePages}
 use Rattle.genie_receiving.proofs.Drifting.{orphan_put}
-use Rattle.genie_receiving.proofs.Put.{put_nothing}
+use Rattle.genie_receiving.specs.Lemmas.Put.{put_nothing}
 use Rattle.genie_receiving.proofs.Weak.{IsWeakInto, region_put}
 use Rattle.genie_plan.specs.declared.plan.InPlan.{InPlan}
 use Rattle.genie_plan.specs.Plans.{input_frames}
@@ -40,11 +40,11 @@ use Rattle.genie_kernel.specs.Planned.{AreItsOwn, LendsRange}
 use Rattle.genie_changes.specs.Working.{at_work, worked}
 use Rattle.genie_receiving.specs.Laws.{ReceiveLaws}
 use Rattle.genie_receiving.proofs.Begun.{begun_kernel, work_begun}
-use Rattle.genie_receiving.proofs.Landed.{LandingsShow}
-use Rattle.genie_receiving.proofs.Payloads.{IsInputOf, ShowsLanded, seen_transfer, take_none}
-use Rattle.genie_receiving.proofs.Ready.{HasRange, IsEarlyInput, can_land, plan_of, own_frames}
+use Rattle.genie_receiving.specs.Lemmas.Landed.{LandingsShow}
+use Rattle.genie_receiving.specs.Lemmas.Payloads.{IsInputOf, ShowsLanded, seen_transfer, take_none}
+use Rattle.genie_receiving.specs.Lemmas.Ready.{HasRange, IsEarlyInput, can_land, plan_of, own_frames}
 use Rattle.genie_receiving.proofs.Strong.{shows_strong}
-use Rattle.genie_receiving.proofs.Views.{found_still}
+use Rattle.genie_receiving.specs.Lemmas.Views.{found_still}
 
 same_plan : (page : ℕ) (t : Transfer) (l : Loans) (p : InPlan) → (h : HasRange page t l) → l ≡ loans.Inward p → LendsRange page (begins_at t) t.len (input_frames p.loans.items) p.first p.len
 same_plan page t l p h is =

@@ -39,9 +39,9 @@ use Rattle.genie_kernel.specs.Same.{PoolsShowSame, ShowSame}
 use Rattle.genie_kernel.specs.Steps.{bytes_over}
 use Rattle.genie_kernel.specs.Transfers.{input_bytes, payload_of}
 use Rattle.genie_kernel.specs.View.{Bytes, state_of}
-use Rattle.genie_receiving.proofs.Payloads.{ShowsLanded, seen_transfer}
-use Rattle.genie_receiving.proofs.Ready.{span_covers}
-use Rattle.genie_receiving.proofs.Shown.{frames_same, payload_shown, orphans_shown, ShowsBeside, state_beside}
+use Rattle.genie_receiving.specs.Lemmas.Payloads.{ShowsLanded, seen_transfer}
+use Rattle.genie_receiving.specs.Lemmas.Ready.{span_covers}
+use Rattle.genie_receiving.specs.Lemmas.Shown.{frames_same, payload_shown, orphans_shown, ShowsBeside, state_beside}
 
 -- the only one among these with a frame
 one_holder : (ts : List Transfer) (f n : ℕ) (t u : Transfer) → holders ts f ≡ n ∷ [] → Has t ts → has_frame f t ≡ true → Has u ts → has_frame f u ≡ true → u ≡ t

@@ -6,3 +6,4 @@ pub mod Landing
 pub mod Receiving
 pub mod Laws
 pub mod Early
+pub mod Lemmas

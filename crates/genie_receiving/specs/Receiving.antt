@@ -7,6 +7,7 @@ use Rattle.genie_base.specs.declared.event.Event.TheVariants.{Recv}
 use Rattle.genie_base.specs.declared.reply.Reply.{Reply}
 use Rattle.genie_host.specs.Host.{HostView, OnlyHandle}
 use Rattle.genie_store.specs.StoreView.{StoreView}
+use Rattle.genie_object.specs.declared.memory.Memory.{Memory}
 use Rattle.genie_object.specs.Sound.{IsSized}
 use Rattle.genie_device.specs.Device.{handle_of}
 use Rattle.genie_model.specs.Tables.{entry}
@@ -37,14 +38,20 @@ abbrev pub StepsOver : Kernel → ℕ → ℕ → Kernel → Reply → List ℕ 
 StepsOver old d n new reply taken ended = (slots : ℕ → List ℕ) (rests sents : ℕ → List ℕ) (rest : List ℕ) → ArePages old.memory.frames.page slots → rests d ≡ taken ++ rest → MayBeLeft ended rest
     → Steps (state_of old (bytes_over old.memory slots rests sents)) (Recv d n) (state_of new (with_rest d rest (bytes_over new.memory slots rests sents))) reply
 
+-- memory m with other bytes in its frames, of which so many have landed
+abbrev pub with_landed : Memory → List (List ℕ) → ℕ → Memory
+with_landed m bytes landed = record m { frames = record (m.frames) { bytes = bytes; landed = landed } }
+
+-- only bytes land in frames: pages, places, slots, owners and loans stay, and the processor moves no byte
+abbrev pub OnlyLanded : Memory → Memory → Type 0
+OnlyLanded old new = new ≡ with_landed old new.frames.bytes new.frames.landed
+
 -- bytes are taken from the input of device d, whether or not the host tells them
 pub record Receives (d n : ℕ) (before after : HostView) (old new : Kernel) (reply : Reply) : Type 0 where
   pub good : IsGood new
   pub kept : Kept old new
   pub config : new.config ≡ old.config
-  pub page : new.memory.frames.page ≡ old.memory.frames.page
-  pub slots : new.memory.slots ≡ old.memory.slots
-  pub meters : new.memory.frames.meters ≡ old.memory.frames.meters
+  pub memory : OnlyLanded old.memory new.memory
   pub landed : new.memory.frames.landed ≤ old.memory.frames.landed + n
   pub taken : List ℕ
   -- it took no more because the input had ended
@@ -73,6 +80,6 @@ pub record IsReceived (d n : ℕ) (before after : HostView) (old new : Kernel) (
   -- no other handle changes, and all stay open in their directions
   pub only : OnlyHandle (input_of old.config d) before after
   pub handles : HasHandles new.config after
-  -- the processor moves no byte, and at most n land
-  pub meters : new.memory.frames.meters ≡ old.memory.frames.meters
+  -- of the memory only bytes in frames change, at most n of which land
+  pub memory : OnlyLanded old.memory new.memory
   pub landed : new.memory.frames.landed ≤ old.memory.frames.landed + n

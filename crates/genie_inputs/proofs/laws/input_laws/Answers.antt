@@ -13,6 +13,7 @@ returns c = record {
   alone = c.accepted_events_step.ensures.alone;
   added = c.added_state.ensures.state;
   made = c.parts_make_good.ensures.good;
+  has = c.parts_make_good.ensures.parts;
   waits = c.new_ones_wait.ensures;
   parts = c.transfers_begin.ensures.parts;
   kept = c.transfers_begin.ensures.kept;

@@ -1,0 +1,115 @@
+-- What each family of events leaves.
+use Rattle.std.proofs.Common.{◌≡◌, ℕ, true, refl, sym, ap, subst, ◌∙◌, List}
+use Rattle.std.specs.Prelude.{Option, Some, None, ◌==◌}
+use Rattle.std.specs.List.{list_any}
+use Rattle.std.specs.Option.{option_map}
+use Rattle.genie_base.specs.Events.{mark_of}
+use Rattle.genie_base.specs.declared.config.Config.{Config}
+use Rattle.genie_base.specs.declared.event.Event.{Event}
+use Rattle.genie_base.specs.declared.refusal.Refusal.{Refusal}
+use Rattle.genie_base.specs.declared.reply.Mark.{Mark}
+use Rattle.genie_base.specs.declared.reply.Mark.TheVariants.{NoFault}
+use Rattle.genie_base.specs.declared.reply.Reply.{Reply}
+use Rattle.genie_base.specs.declared.reply.Reply.TheVariants as reply
+use Rattle.genie_host.specs.Host.{HostView, OnlyHandle}
+use Rattle.genie_store.specs.StoreView.{StoreView}
+use Rattle.genie_object.specs.Memory.{seen}
+use Rattle.genie_object.specs.Sound.{IsSized}
+use Rattle.genie_object.specs.Lemmas.Touching.{keeps_all}
+use Rattle.genie_model.specs.Refusing.{refuse}
+use Rattle.genie_model.specs.State.{State}
+use Rattle.genie_model.specs.Step.{Outcome, answer, step}
+use Rattle.genie_kernel.specs.declared.kernel.Kernel.{Kernel}
+use Rattle.genie_kernel.specs.Good.{IsGood}
+use Rattle.genie_kernel.specs.Handles.{HasHandles, KeepsOthers, handles}
+use Rattle.genie_kernel.specs.Kept.{Kept}
+use Rattle.genie_kernel.specs.Steps.{StepsAlone, StepsTold, StoreCause, DeviceCause, bytes_over}
+use Rattle.genie_kernel.specs.Told.{rests_of, sents_of}
+use Rattle.genie_kernel.specs.View.{bytes_with, outline, state_of, view}
+use Rattle.genie_kernel.specs.Lemmas.Blind.{refuses_alike}
+use Rattle.genie_kernel.specs.Lemmas.Keeping.{calls_kept}
+use Rattle.genie_kernel.specs.Lemmas.OpenHandles.{others_kept}
+use Rattle.genie_kernel.specs.Lemmas.Stepping.{alone_told}
+use Rattle.genie_changes.specs.Paged.{IsPaged, PagedIsTold, StepsPaged}
+use Rattle.genie_calls.specs.Serving.{Outside, Nothing, TheStore, TheHandle, Served, ServedAlone, ServedByHost, ServedByStore, Touches, touched_by}
+
+only_refl : (h : ℕ) (v : HostView) → OnlyHandle h v v
+only_refl h v = record { names = refl; others = λ k ne. refl; mode = refl; opened = refl; tried = refl; refusals = refl }
+
+pub others_refl : (c : Config) (v : HostView) → KeepsOthers c v v
+others_refl c v = record { handles_kept = λ h apart. refl; modes = λ h. refl; names = refl; opened = refl; tried = refl; refusals = refl }
+
+-- where nothing failed and nothing outside has changed
+untouched : (o : Outside) (m : Mark) (host : HostView) (v : StoreView) → m ≡ NoFault → Touches o m host host v v
+untouched Nothing m host v none = record { unfailed = none; host = refl; store = refl }
+untouched TheStore m host v none = record { host = refl; cause = subst (λ x. StoreCause x v.faults v.faults) (sym none) refl }
+untouched (TheHandle h) m host v none = record { only = only_refl h host; cause = subst (λ x. DeviceCause x (host.handle h).faults (host.handle h).faults) (sym none) refl; store = refl }
+
+-- the sizes of the memory are those of the configuration
+still_sized : (old new : Kernel) (v : StoreView) → IsGood old → IsGood new → new.config ≡ old.config → IsSized old.memory v → IsSized new.memory v
+still_sized old new v g h config s = record {
+  count = s.count ∙ g.sized.slots ∙ sym (h.sized.slots ∙ ap (λ (c : Config). c.slots) config);
+  page = s.page ∙ g.sized.page ∙ sym (h.sized.page ∙ ap (λ (c : Config). c.page) config);
+}
+
+-- an event that touches nothing outside, and is told where host and store tell
+served_alone : (old new : Kernel) (e : Event) (r : Reply) (host : HostView) (v : StoreView) → IsGood old → IsGood new → Kept old new → new.config ≡ old.config → mark_of r ≡ NoFault → HasHandles old.config host → IsSized old.memory v → StepsTold (view old host v) e (view new host v) r → Served old new e host host v v r
+served_alone old new e r host v g good kept config unfailed handles sized told = record {
+  good = good;
+  sized = still_sized old new v g good config sized;
+  kept = kept;
+  config = config;
+  step = told;
+  touches = untouched (touched_by old.config e) (mark_of r) host v unfailed;
+  handles = subst (λ c. HasHandles c host) (sym config) handles;
+  others = others_refl old.config host;
+}
+
+pub alone_served : (old new : Kernel) (e : Event) (r : Reply) → IsGood old → refuse (outline old) e ≡ None → IsGood new → Kept old new → new.config ≡ old.config → mark_of r ≡ NoFault → StepsAlone old e new r → ServedAlone old e new r
+alone_served old new e r g h good kept config unfailed steps = λ host v handles sized paged. served_alone old new e r host v g good kept config unfailed handles sized (alone_told old new e r host v h config steps)
+
+-- the same of an event that may touch the store, and doesn't
+pub alone_by_store : (old new : Kernel) (e : Event) (r : Reply) (v : StoreView) → IsGood old → refuse (outline old) e ≡ None → IsSized old.memory v → IsGood new → Kept old new → new.config ≡ old.config → mark_of r ≡ NoFault → StepsAlone old e new r → ServedByStore old e new v v r
+alone_by_store old new e r v g h sized good kept config unfailed steps = λ host handles. served_alone old new e r host v g good kept config unfailed handles sized (alone_told old new e r host v h config steps)
+
+pub paged_served : PagedIsTold → (old new : Kernel) (e : Event) (r : Reply) → IsGood old → refuse (outline old) e ≡ None → IsGood new → Kept old new → new.config ≡ old.config → mark_of r ≡ NoFault → StepsPaged old e new r → ServedAlone old e new r
+paged_served law old new e r g h good kept config unfailed steps = λ host v handles sized paged. served_alone old new e r host v g good kept config unfailed handles sized (law old new e r host v h config sized paged steps)
+
+-- an event that may touch the store
+pub store_served : (old new : Kernel) (e : Event) (v w : StoreView) (r : Reply) → touched_by old.config e ≡ TheStore → IsGood new → IsSized new.memory w → Kept old new → new.config ≡ old.config → ((host : HostView) → StepsTold (view old host v) e (view new host w) r) → StoreCause (mark_of r) v.faults w.faults → ServedByStore old e new v w r
+store_served old new e v w r outside good sized kept config told cause = λ host handles. record {
+  good = good;
+  sized = sized;
+  kept = kept;
+  config = config;
+  step = told host;
+  touches = subst (λ o. Touches o (mark_of r) host host v w) (sym outside) (record { host = refl; cause = cause });
+  handles = subst (λ c. HasHandles c host) (sym config) handles;
+  others = others_refl old.config host;
+}
+
+-- a refusal
+refused_told : (k : Kernel) (e : Event) (x : Refusal) → refuse (outline k) e ≡ Some x → (slots rests sents : Option (ℕ → List ℕ)) → StepsTold (option_map (state_of k) (bytes_with (option_map (seen k.memory) slots) rests sents)) e (option_map (state_of k) (bytes_with (option_map (seen k.memory) slots) rests sents)) (reply.Err x)
+refused_told k e x h None rests sents = tt
+refused_told k e x h (Some slots) None sents = tt
+refused_told k e x h (Some slots) (Some rests) None = tt
+refused_told k e x h (Some slots) (Some rests) (Some sents) =
+    let s : State = state_of k (bytes_over k.memory slots rests sents) in
+    let same : step s e NoFault ≡ (s, reply.Err x) = ap (answer s e NoFault) (refuses_alike k (bytes_over k.memory slots rests sents) e ∙ h) in
+    (ap Some (sym (ap (λ (o : Outcome). o.0) same)), sym (ap (λ (o : Outcome). o.1) same))
+
+pub refused_served : (k : Kernel) (e : Event) (x : Refusal) → IsGood k → refuse (outline k) e ≡ Some x → ServedAlone k e k (reply.Err x)
+refused_served k e x g h = λ host v handles sized paged. served_alone k k e (reply.Err x) host v g g (calls_kept k k.memory g (keeps_all k.memory)) refl refl handles sized (refused_told k e x h v.slots (rests_of host k.config) (sents_of host k.config))
+
+-- an event that touches the handle of its device
+pub host_served : (old new : Kernel) (e : Event) (h : ℕ) (before after : HostView) (r : Reply) → touched_by old.config e ≡ TheHandle h → list_any (λ g. g == h) (handles old.config) ≡ true → IsGood old → IsGood new → Kept old new → new.config ≡ old.config → OnlyHandle h before after → HasHandles new.config after → ((v : StoreView) → IsSized old.memory v → IsPaged v → StepsTold (view old before v) e (view new after v) r) → DeviceCause (mark_of r) (before.handle h).faults (after.handle h).faults → ServedByHost old e new before after r
+host_served old new e h before after r outside named g good kept config only opened told cause = λ v sized paged. record {
+  good = good;
+  sized = still_sized old new v g good config sized;
+  kept = kept;
+  config = config;
+  step = told v sized paged;
+  touches = subst (λ o. Touches o (mark_of r) before after v v) (sym outside) (record { only = only; cause = cause; store = refl });
+  handles = opened;
+  others = others_kept old.config h before after only named;
+}
