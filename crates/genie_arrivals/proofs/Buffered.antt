@@ -82,23 +82,23 @@ module _ (k : Kernel) (n : ℕ) (t : Transfer) (g : IsGood k) (found : find (has
       one_more (has_waiting (entry k.devices t.dev) (entry k.pools t.dev) b) (omega (arith, counted, one, least))
 
 module _ (laws : EndLaws) (show : BuffersShow) (end : ReleasedEnds) (release : ReleasedShows) (k : Kernel) (n : ℕ) (t : Transfer) (new : Kernel) (g : IsGood k) (accepted : refuse (outline k) (Finish n) ≡ None) (ready : is_ready t.phase ≡ true) (x : EndsWaiting n k new t) where
-  abbrev idle : IsIdle t.phase
+  abbrev pub idle : IsIdle t.phase
   idle = ready_idle t.phase ready
 
-  abbrev ended : Memory
+  abbrev pub ended : Memory
   ended = record (k.memory) { frames = new.memory.frames }
 
   -- the kernel without the transfer, and then without what its buffer held
-  abbrev less : Kernel
+  abbrev pub less : Kernel
   less = without_call k ended n k.posted
 
-  abbrev devices : List (Option DeviceView)
+  abbrev pub devices : List (Option DeviceView)
   devices = devices_freed k.devices k.pools t.dev x.buffer
 
-  abbrev pools : List (Option PoolState)
+  abbrev pub pools : List (Option PoolState)
   pools = pools_freed k.pools t.dev x.buffer
 
-  abbrev freed : Kernel
+  abbrev pub freed : Kernel
   freed = record less { devices = devices; pools = pools }
 
   settled : IsSettled k
@@ -107,10 +107,10 @@ module _ (laws : EndLaws) (show : BuffersShow) (end : ReleasedEnds) (release : R
   others : LeavesOthers n t k.transfers k.pools k.memory ended
   others = laws.given k.config.page k.memory k.devices n t k.transfers k.pools new.memory.frames (laws.lends k n settled) x.found x.shaped x.lent x.back
 
-  freed_settled : IsSettled freed
+  pub freed_settled : IsSettled freed
   freed_settled = laws.ends k ended n t k.posted devices pools settled x.found idle.unqueued idle.unmoved (laws.ended k n t new.memory.frames settled x.back others) (end k n t x.buffer settled x.found x.mine) (laws.posted (has_number n) t k.posted k.transfers x.found idle.unposted g.posted)
 
-  freed_kept : Kept k freed
+  pub freed_kept : Kept k freed
   freed_kept =
       let kept : Kept k less = laws.kept k ended n t k.posted settled x.found others in
       record {
@@ -122,10 +122,10 @@ module _ (laws : EndLaws) (show : BuffersShow) (end : ReleasedEnds) (release : R
   freed_same : (b : Bytes) → state_of freed b ≡ state_of less b
   freed_same b = show less devices pools b (release k n t x.buffer b.seen.kept_bytes settled x.found x.mine x.filling)
 
-  freed_outline : outline freed ≡ tidy (without_transfer (outline k) n)
+  pub freed_outline : outline freed ≡ tidy (without_transfer (outline k) n)
   freed_outline = freed_same (no_bytes k.config.page) ∙ laws.leaves k ended n t k.posted (no_bytes k.config.page) (no_bytes k.config.page) g x.found idle.unqueued idle.unmoved (laws.outlines k n)
 
-  freed_shown : (slots rests sents : ℕ → List ℕ) → state_of freed (bytes_over ended slots rests sents) ≡ tidy (without_transfer (state_of k (bytes_over k.memory slots rests sents)) n)
+  pub freed_shown : (slots rests sents : ℕ → List ℕ) → state_of freed (bytes_over ended slots rests sents) ≡ tidy (without_transfer (state_of k (bytes_over k.memory slots rests sents)) n)
   freed_shown slots rests sents =
       freed_same (bytes_over ended slots rests sents)
       ∙ laws.leaves k ended n t k.posted (bytes_over k.memory slots rests sents) (bytes_over ended slots rests sents) g x.found idle.unqueued idle.unmoved (laws.shows k ended n t slots rests sents settled others)

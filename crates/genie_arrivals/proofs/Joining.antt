@@ -191,9 +191,9 @@ module _ (old mid : Memory) (o off len few : ℕ) (A B : List InLoan) (sound : I
       counts = λ p f out place.
           let owner : owner_at old.frames f.0 ≡ Page p = sound.placed.in_frame p f place in
           let none : times fb f.0 ≡ 0 = ⊎_elim
-              (λ (some : 0 < times fb f.0). let is = (was f.0 (in_b f.0 some)).own in let clash : false ≡ true = sym (ap is_system owner) ∙ is in absurd (cc))
-              (λ (none : times fb f.0 ≡ 0). none)
-              (some_or (times fb f.0)) in
+          (λ (some : 0 < times fb f.0). let is = (was f.0 (in_b f.0 some)).own in let clash : false ≡ true = sym (ap is_system owner) ∙ is in absurd (cc))
+          (λ (none : times fb f.0 ≡ 0). none)
+          (some_or (times fb f.0)) in
           other_counts f.0 none ∙ mid_touches.counts p f out place;
     }
 

@@ -5,6 +5,13 @@ mod Alone
 mod Lent
 mod Quiet
 mod Buffered
+mod PooledAt
+mod PooledCopy
+mod PooledWeak
+mod PooledEnd
+mod PooledShare
+mod PooledCases
+mod PooledLive
 mod Lively
 mod Reaching
 mod Readying

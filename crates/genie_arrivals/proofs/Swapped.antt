@@ -165,9 +165,9 @@ module _ (laws : EndLaws) (swap : SwapLaws) (k : Kernel) (n : ℕ) (t : Transfer
   system_its f e =
       let h = holder_in n f ts (g.owners.system f n e) in
       let same : h.u ≡ t = ⊎_elim
-          (λ (is : h.u ≡ t). is)
-          (λ (later : Has h.u us). absurd (others_differ n ts t settled.rising found h.u later h.number))
-          (among h.u h.there) in
+      (λ (is : h.u ≡ t). is)
+      (λ (later : Has h.u us). absurd (others_differ n ts t settled.rising found h.u later h.number))
+      (among h.u h.there) in
       counted_some f fs (sym (ap (has_frame f) same) ∙ h.on)
     where
       among : (u : Transfer) → Has u ts → (u ≡ t) ⊎ Has u us
@@ -334,7 +334,7 @@ module _ (laws : EndLaws) (swap : SwapLaws) (k : Kernel) (n : ℕ) (t : Transfer
           let on : pool_on f (entry k.pools d) ≡ times (input_frames q.loans) f = ap (pool_on f) e in
           let owner = g.owners.pool_frames f d (omega (arith, some, on)) in
           let none : times fs f ≡ 0 = ⊎_elim
-              (λ (its : 0 < times fs f). let clash : System n ≡ Pool d = sym (its_own f its) ∙ owner in absurd (cc))
-              (λ (none : times fs f ≡ 0). none)
-              (some_or (times fs f)) in
+          (λ (its : 0 < times fs f). let clash : System n ≡ Pool d = sym (its_own f its) ∙ owner in absurd (cc))
+          (λ (none : times fs f ≡ 0). none)
+          (some_or (times fs f)) in
           (x.shows slots paged).others f none

@@ -13,3 +13,4 @@ pub mod Failing
 pub mod Clearing
 pub mod Paging
 pub mod Waiting
+pub mod Pooled

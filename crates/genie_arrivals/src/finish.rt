@@ -37,11 +37,7 @@ fn class_at(kernel: &Kernel, id: TransferId) -> Class
 }
 
 // Ends an input by its class.
-fn finish_by_class<S: Store>(
-    kernel: &mut Kernel,
-    store: &mut S,
-    id: TransferId,
-) -> Reply<'static>
+fn finish_by_class<S: Store>(kernel: &mut Kernel, store: &mut S, id: TransferId) -> Reply<'static>
     requires good { IsGood kernel.old }
     requires sized { IsSized kernel.old.memory (S.view store.old) }
     requires meters { AreBelow (2 ^ 63) kernel.old.memory.frames.meters }

@@ -10,6 +10,7 @@ pub mod held;
 mod laws;
 mod live;
 mod owned;
+pub mod pooled;
 mod release;
 mod room;
 pub mod share;

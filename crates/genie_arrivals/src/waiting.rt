@@ -17,7 +17,7 @@ use genie_changes::released::{buffers_are_released, buffers_show};
 use genie_kernel::{Kernel, Transfer};
 
 // Takes an input out, gives back what was lent for it, and makes its buffer free.
-fn end_waiting(kernel: &mut Kernel, id: TransferId) -> Transfer
+pub(crate) fn end_waiting(kernel: &mut Kernel, id: TransferId) -> Transfer
     requires good { IsGood kernel.old }
     requires accepted { refuse (outline kernel.old) (event.Finish id.0) ≡ None }
     requires case { IfSome (find (has_number id.0) kernel.old.transfers) (IsWaiting kernel.old.devices) }
