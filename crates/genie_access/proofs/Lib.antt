@@ -7,3 +7,4 @@ mod Once
 mod Stored
 mod Changed
 mod Wrote
+pub mod Copied

@@ -12,6 +12,7 @@ ghost use Rattle.genie_kernel.specs.Kept.{Kept};
 ghost use Rattle.genie_kernel.specs.Steps.{StepsTold, StoreCause};
 ghost use Rattle.genie_kernel.specs.View.{view};
 ghost use Rattle.genie_pageout.specs.Going.{allowed};
+ghost use Rattle.genie_copying.specs.Bounds.{KeepsToBound};
 ghost use Rattle.genie_access.specs.Moving.{with_memory, KeepsSeen, PutsPages, reply_to};
 
 use genie_base::Reply;
@@ -72,6 +73,7 @@ pub fn pageout<S: Store>(kernel: &mut Kernel, store: &mut S, n: u32) -> Reply<'s
     // As many pages as were asked for go to the store, or all that may. No byte is moved by the processor.
     ensures puts { PutsPages n (allowed kernel.old.memory (objects_of kernel.old.hidden)) kernel.old.memory kernel.new.memory result }
     ensures meters { Spends 0 0 8192 0 kernel.old.memory.frames.meters kernel.new.memory.frames.meters }
+    ensures copying { KeepsToBound kernel.old (event.Pageout n) kernel.new result }
 {
     memory_calls_keep_good();
     view_is_tidy();

@@ -11,6 +11,9 @@ ghost use Rattle.genie_kernel.specs.Good.{IsGood};
 ghost use Rattle.genie_kernel.specs.Kept.{Kept};
 ghost use Rattle.genie_kernel.specs.Steps.{StepsTold, StoreCause};
 ghost use Rattle.genie_kernel.specs.View.{view, outline};
+ghost use Rattle.genie_hiding.specs.Hidden.{objects_of};
+ghost use Rattle.genie_copying.specs.Bounds.{event_bound, KeepsToBound};
+ghost use Rattle.genie_copying.specs.Spending.{CopiesAtMost, NoDearer};
 ghost use Rattle.genie_access.specs.Moving.{with_memory, KeepsSeen, HasTwo};
 ghost use Rattle.genie_access.specs.Reached.{LeadsTo, ReadsAt};
 
@@ -53,6 +56,8 @@ pub(crate) fn make_two<S: Store>(kernel: &mut Kernel, store: &mut S) -> Result<(
     ensures seen { KeepsSeen kernel.old kernel.new.memory (S.view store.old) (S.view store.new) }
     ensures room { OnOk result (HasTwo kernel.new.memory) }
     ensures meters { AreBelow (2 ^ 63 + 2 ^ 20) kernel.new.memory.frames.meters }
+    ensures copies { CopiesAtMost 0 kernel.old.memory kernel.new.memory }
+    ensures costs { NoDearer (objects_of kernel.old.hidden) kernel.old.memory kernel.new.memory }
     ensures cause { HasCause (S.view store.old).faults (S.view store.new).faults result }
 {
     four_are_available();
@@ -88,6 +93,7 @@ fn read_into<S: Store>(
     ensures seen { KeepsSeen kernel.old kernel.new.memory (S.view store.old) (S.view store.new) }
     ensures cause { HasCause (S.view store.old).faults (S.view store.new).faults result }
     ensures bytes { OnOk result (ReadsAt kernel.old (S.view store.old) pid addr len into.new) }
+    ensures copies { CopiesAtMost (event_bound kernel.old (event.Read pid addr len)) kernel.old.memory kernel.new.memory }
 {
     let (object, off) = find_place(kernel, pid, addr, len);
     match make_two(kernel, store) {
@@ -122,6 +128,9 @@ pub fn read<'a, S: Store>(
     ensures only { kernel.new ≡ with_memory kernel.old kernel.new.memory kernel.new.clock }
     ensures step { (host : HostView) → StepsTold (view kernel.old host (S.view store.old)) (event.Read pid addr len) (view kernel.new host (S.view store.new)) result }
     ensures cause { StoreCause (mark_of result) (S.view store.old).faults (S.view store.new).faults }
+
+    // Only the bytes read are moved, and untouched pages are zeroed.
+    ensures copying { KeepsToBound kernel.old (event.Read pid addr len) kernel.new result }
 {
     memory_calls_keep_good();
     view_is_tidy();

@@ -11,6 +11,8 @@ ghost use Rattle.genie_kernel.specs.Good.{IsGood};
 ghost use Rattle.genie_kernel.specs.Kept.{Kept};
 ghost use Rattle.genie_kernel.specs.Steps.{StepsTold, StoreCause};
 ghost use Rattle.genie_kernel.specs.View.{view, outline};
+ghost use Rattle.genie_copying.specs.Bounds.{event_bound, KeepsToBound};
+ghost use Rattle.genie_copying.specs.Spending.{CopiesAtMost};
 ghost use Rattle.genie_access.specs.Moving.{with_memory, KeepsSeen};
 ghost use Rattle.genie_access.specs.Storing.{WritesAt};
 
@@ -38,6 +40,7 @@ fn write_from<S: Store>(
     ensures stored { OnOk result (WritesAt kernel.old kernel.new.memory (S.view store.old) (S.view store.new) pid addr bytes.now) }
     ensures failed { OnErr result (KeepsSeen kernel.old kernel.new.memory (S.view store.old) (S.view store.new)) }
     ensures cause { HasCause (S.view store.old).faults (S.view store.new).faults result }
+    ensures copies { CopiesAtMost (event_bound kernel.old (event.Write pid addr bytes.now)) kernel.old.memory kernel.new.memory }
 {
     let (object, off) = find_place(kernel, pid, addr, bytes.len() as u32);
     match make_two(kernel, store) {
@@ -72,6 +75,9 @@ pub fn write<S: Store>(
     ensures only { kernel.new ≡ with_memory kernel.old kernel.new.memory kernel.new.clock }
     ensures step { (host : HostView) → StepsTold (view kernel.old host (S.view store.old)) (event.Write pid addr bytes.now) (view kernel.new host (S.view store.new)) result }
     ensures cause { StoreCause (mark_of result) (S.view store.old).faults (S.view store.new).faults }
+
+    // Only the bytes written are moved, and pages that can't be written in place are copied or zeroed.
+    ensures copying { KeepsToBound kernel.old (event.Write pid addr bytes.now) kernel.new result }
 {
     memory_calls_keep_good();
     view_is_tidy();

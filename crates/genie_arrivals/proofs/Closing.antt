@@ -65,6 +65,7 @@ fault_serves k new v w n accepted moved rose = record {
   good = moved.good;
   sized = moved.sized;
   kept = moved.kept;
+  config = ap (λ (j : Kernel). j.config) moved.only;
   step = λ host. subst (λ x. StepsTold (view k host v) (Finish n) x reply.StoreFault) (sym (moved.told host)) (failed_step k n _ accepted);
   cause = rose;
 }
@@ -75,6 +76,7 @@ alone_serves told k new v n r accepted sized e = record {
   good = e.good;
   sized = e.sized v sized;
   kept = e.kept;
+  config = e.config;
   step = λ host. told k new (Finish n) r host v accepted e.config e.step;
   cause = subst (λ (m : Mark). StoreCause m v.faults v.faults) (sym e.unfailed) refl;
 }
@@ -154,6 +156,7 @@ module _ (laws : EndLaws) (room : CopyLaws) (swap : SwapLaws) (told : PagedIsTol
         good = laws.good new (swapped_settled laws swap mid n t g found ready taken.is.early strong L h.is_loans h.is_frames h.own m range.object.0 range.off range.len stores unhidden guarded) (orderly_after laws room mid n t range g found ready taken.is.early taken.is.class_is taken.is.inward taken.target m refused);
         sized = record { count = moved.sized.count ∙ sym stores.keeps.slots; page = moved.sized.page ∙ sym stores.keeps.page };
         kept = room.kept k mid new v w moved (swapped_kept laws swap mid n t g found ready taken.is.early strong L h.is_loans h.is_frames h.own m range.object.0 range.off range.len stores unhidden guarded);
+        config = ap (λ (j : Kernel). j.config) moved.only;
         step = λ host. subst (λ s. StepsTold s (Finish n) (view new host w) answer) (moved.told host) (told mid new (Finish n) answer host w refused refl moved.sized paged steps_paged);
         cause = faults;
       }
@@ -164,6 +167,7 @@ paged_serves told k new v n r accepted sized paged e = record {
   good = e.good;
   sized = e.sized v sized;
   kept = e.kept;
+  config = e.config;
   step = λ host. told k new (Finish n) r host v accepted e.config sized paged e.step;
   cause = subst (λ (m : Mark). StoreCause m v.faults v.faults) (sym e.unfailed) refl;
 }

@@ -12,6 +12,11 @@ mod PooledEnd
 mod PooledShare
 mod PooledCases
 mod PooledLive
+mod Blank
+mod WeakPlan
+mod Landing
+mod EndLanded
+mod Unlanded
 mod Lively
 mod Reaching
 mod Readying

@@ -1,4 +1,5 @@
 -- What an event leaves that may ask the store.
+use Rattle.std.specs.Prelude.{◌≡◌}
 use Rattle.genie_base.specs.Events.{mark_of}
 use Rattle.genie_base.specs.declared.event.Event.{Event}
 use Rattle.genie_base.specs.declared.reply.Reply.{Reply}
@@ -17,5 +18,6 @@ pub record Serves (old : Kernel) (e : Event) (new : Kernel) (v w : StoreView) (r
   pub good : IsGood new
   pub sized : IsSized new.memory w
   pub kept : Kept old new
+  pub config : new.config ≡ old.config
   pub step : (host : HostView) → StepsTold (view old host v) e (view new host w) reply
   pub cause : StoreCause (mark_of reply) v.faults w.faults

@@ -9,6 +9,7 @@ pub mod finish;
 pub mod held;
 mod laws;
 mod live;
+pub mod outboard;
 mod owned;
 pub mod pooled;
 mod release;

@@ -68,6 +68,10 @@ served_alone old new e r host v g good kept config unfailed handles sized told =
 pub alone_served : (old new : Kernel) (e : Event) (r : Reply) → IsGood old → refuse (outline old) e ≡ None → IsGood new → Kept old new → new.config ≡ old.config → mark_of r ≡ NoFault → StepsAlone old e new r → ServedAlone old e new r
 alone_served old new e r g h good kept config unfailed steps = λ host v handles sized paged. served_alone old new e r host v g good kept config unfailed handles sized (alone_told old new e r host v h config steps)
 
+-- the same of an event that may touch the store, and doesn't
+pub alone_by_store : (old new : Kernel) (e : Event) (r : Reply) (v : StoreView) → IsGood old → refuse (outline old) e ≡ None → IsSized old.memory v → IsGood new → Kept old new → new.config ≡ old.config → mark_of r ≡ NoFault → StepsAlone old e new r → ServedByStore old e new v v r
+alone_by_store old new e r v g h sized good kept config unfailed steps = λ host handles. served_alone old new e r host v g good kept config unfailed handles sized (alone_told old new e r host v h config steps)
+
 pub paged_served : PagedIsTold → (old new : Kernel) (e : Event) (r : Reply) → IsGood old → refuse (outline old) e ≡ None → IsGood new → Kept old new → new.config ≡ old.config → mark_of r ≡ NoFault → StepsPaged old e new r → ServedAlone old e new r
 paged_served law old new e r g h good kept config unfailed steps = λ host v handles sized paged. served_alone old new e r host v g good kept config unfailed handles sized (law old new e r host v h config sized paged steps)
 

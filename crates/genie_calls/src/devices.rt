@@ -1,9 +1,11 @@
 //! Events of devices.
-ghost use Rattle.std.specs.Prelude.{◌≡◌, None};
+ghost use Rattle.std.specs.Prelude.{◌≡◌, ◌^◌, ◌<◌, None, true};
 ghost use Rattle.genie_base.specs.declared.event.Event.TheVariants as event;
 ghost use Rattle.genie_model.specs.Refusing.{refuse};
+ghost use Rattle.genie_model.specs.Tables.{entry};
 ghost use Rattle.genie_kernel.specs.Good.{IsGood};
 ghost use Rattle.genie_kernel.specs.Handles.{HasHandles};
+ghost use Rattle.genie_kernel.specs.Planned.{is_early_device};
 ghost use Rattle.genie_kernel.specs.View.{outline};
 ghost use Rattle.genie_calls.specs.Serving.{ServedByHost};
 
@@ -19,4 +21,21 @@ pub(crate) fn send<H: Host>(kernel: &mut Kernel, host: &mut H, dev: u32, len: u3
     ensures { ServedByHost kernel.old (event.Send dev len) kernel.new (H.view host.old) (H.view host.new) result }
 {
     genie_sending::send::send(kernel, host, dev, len)
+}
+
+// An early device receives.
+pub(crate) fn recv_early<H: Host>(
+    kernel: &mut Kernel,
+    host: &mut H,
+    dev: u32,
+    len: u32,
+) -> Reply<'static>
+    requires good { IsGood kernel.old }
+    requires handles { HasHandles kernel.old.config (H.view host.old) }
+    requires landed { kernel.old.memory.frames.landed < 2 ^ 63 }
+    requires accepted { refuse (outline kernel.old) (event.Recv dev len) ≡ None }
+    requires early { is_early_device (entry kernel.old.devices dev) ≡ true }
+    ensures { ServedByHost kernel.old (event.Recv dev len) kernel.new (H.view host.old) (H.view host.new) result }
+{
+    genie_receiving::early::recv_early(kernel, host, dev, len)
 }

@@ -7,3 +7,4 @@ mod devices;
 mod endings;
 mod laws;
 mod spaces;
+mod transfers;

@@ -1,15 +1,17 @@
 //! Any input call.
-ghost use Rattle.std.specs.Prelude.{◌≡◌, ◌+◌, ◌^◌, ◌<◌, IsTrue, None, Some};
+ghost use Rattle.std.specs.Prelude.{◌≡◌, ◌+◌, ◌-◌, ◌^◌, ◌<◌, IsTrue, None, Some};
 ghost use Rattle.genie_base.specs.Events.{is_whole, mark_of};
 ghost use Rattle.genie_base.specs.Transfers.{class_of};
 ghost use Rattle.genie_base.specs.declared.event.Event.TheVariants as event;
 ghost use Rattle.genie_base.specs.declared.semantics.Class.TheVariants.{WeakMove};
+ghost use Rattle.genie_host.specs.Host.{HostView};
 ghost use Rattle.genie_object.specs.Costs.{AreBelow};
 ghost use Rattle.genie_object.specs.Sound.{IsSized};
 ghost use Rattle.genie_model.specs.Refusing.{refuse};
 ghost use Rattle.genie_kernel.specs.Good.{IsGood};
-ghost use Rattle.genie_kernel.specs.Steps.{StoreCause};
-ghost use Rattle.genie_kernel.specs.View.{outline};
+ghost use Rattle.genie_kernel.specs.Kept.{Kept};
+ghost use Rattle.genie_kernel.specs.Steps.{StepsTold, StoreCause};
+ghost use Rattle.genie_kernel.specs.View.{outline, view};
 ghost use Rattle.genie_inputs.specs.Calls.{input_event};
 ghost use Rattle.genie_inputs.specs.Posting.{IsAnswered};
 
@@ -97,9 +99,13 @@ pub fn input<S: Store>(
     requires good { IsGood kernel.old }
     requires sized { IsSized kernel.old.memory (S.view store.old) }
     requires meters { AreBelow (2 ^ 63) kernel.old.memory.frames.meters }
-    requires numbered { kernel.old.next + 1 < 2 ^ 32 }
+    requires numbered { kernel.old.next < 2 ^ 32 - 1 }
     requires accepted { refuse (outline kernel.old) (event.Input pid sem dev port flow addr len) ≡ None }
-    ensures answered { IsAnswered kernel.old kernel.new (S.view store.old) (S.view store.new) (event.Input pid sem dev port flow addr len) result }
+    ensures good { IsGood kernel.new }
+    ensures sized { IsSized kernel.new.memory (S.view store.new) }
+    ensures kept { Kept kernel.old kernel.new }
+    ensures config { kernel.new.config ≡ kernel.old.config }
+    ensures step { (host : HostView) → StepsTold (view kernel.old host (S.view store.old)) (event.Input pid sem dev port flow addr len) (view kernel.new host (S.view store.new)) result }
     ensures cause { StoreCause (mark_of result) (S.view store.old).faults (S.view store.new).faults }
 {
     let call = Call {

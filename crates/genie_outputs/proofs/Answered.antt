@@ -42,12 +42,16 @@ use Rattle.genie_outputs.proofs.Pages.{HasPages}
 use Rattle.genie_outputs.proofs.Shown.{Shows, strong_shows}
 use Rattle.genie_outputs.proofs.Stepping.{state_with, stays, steps_to}
 
+pub moved_config : (old new : Kernel) (v w : StoreView) → IsMoved old new v w → new.config ≡ old.config
+moved_config old new v w moved = ap (λ (k : Kernel). k.config) moved.only
+
 -- after room was made, what the rest of the call answers is the call's answer
 pub answered_since : OutputLaws → (old mid new : Kernel) (c : Call) (u v w : StoreView) (r : Reply) → IsMoved old mid u v → v.faults ≡ u.faults → IsAnswered mid c new v w r → IsAnswered old c new u w r
 answered_since laws old mid new c u v w r moved same a = record {
   good = a.good;
   sized = a.sized;
   kept = laws.since old mid new u v moved a.kept;
+  config = a.config ∙ moved_config old mid u v moved;
   step = λ host. subst (λ x. StepsTold x (event_of c) (view new host w) r) (moved.told host) (a.step host);
   cause = subst (λ n. StoreCause (mark_of r) n w.faults) same a.cause;
 }
@@ -62,6 +66,7 @@ failed_answered k new c v w accepted moved cause = record {
   good = moved.good;
   sized = moved.sized;
   kept = moved.kept;
+  config = moved_config k new v w moved;
   step = λ host. subst (λ x. StepsTold (view k host v) (event_of c) x reply.StoreFault) (sym (moved.told host)) (failed_step k c _ accepted);
   cause = cause;
 }
@@ -113,6 +118,7 @@ module _ (laws : OutputLaws) (k : Kernel) (m : Memory) (c : Call) (r : Region) (
     good = good;
     sized = sized;
     kept = kept;
+    config = config;
     step = λ host.
         let by = told_by final P step v.slots w.slots (rests_of host k.config) (sents_of host k.config) so told in
         subst (λ z. StepsTold (view k host v) (event_of c) (option_map (state_of final) (bytes_with (seen_with final.memory w) (rests_of host z) (sents_of host z))) (reply.Id k.next)) (sym config) by;

@@ -47,6 +47,7 @@ pub fn out<S: Store>(
     ensures good { IsGood kernel.new }
     ensures sized { IsSized kernel.new.memory (S.view store.new) }
     ensures kept { Kept kernel.old kernel.new }
+    ensures config { kernel.new.config ≡ kernel.old.config }
     ensures step { (host : HostView) → StepsTold (view kernel.old host (S.view store.old)) (event.Output pid sem dev port flow addr len) (view kernel.new host (S.view store.new)) result }
     ensures cause { StoreCause (mark_of result) (S.view store.old).faults (S.view store.new).faults }
 {

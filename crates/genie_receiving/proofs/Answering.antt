@@ -31,11 +31,11 @@ use Rattle.genie_receiving.specs.Laws.{ReceiveLaws}
 use Rattle.genie_receiving.specs.Receiving.{Receives, IsReceived}
 use Rattle.genie_receiving.specs.Lemmas.Accepted.{may_receive, named, reading}
 use Rattle.genie_receiving.proofs.EarlySteps.{bad_receives, between_of}
-use Rattle.genie_receiving.proofs.Inputs.{IsReceiver, IsMet, is_receiver, is_met, some_found}
+use Rattle.genie_receiving.specs.Lemmas.Inputs.{IsReceiver, IsMet, is_receiver, is_met, some_found}
 use Rattle.genie_receiving.proofs.Begun.{begun_kernel, work_begun}
-use Rattle.genie_receiving.proofs.Landed.{LandingsShow, within_receives}
+use Rattle.genie_receiving.specs.Lemmas.Landed.{LandingsShow, within_receives}
 use Rattle.genie_receiving.proofs.Matching.{matching_receives}
-use Rattle.genie_receiving.proofs.Ready.{IsEarlyInput, can_land, plan_of}
+use Rattle.genie_receiving.specs.Lemmas.Ready.{IsEarlyInput, can_land, plan_of}
 use Rattle.genie_receiving.specs.Lemmas.Telling.{is_received}
 use Rattle.genie_receiving.proofs.Showing.{input_shows, begun_shows}
 

@@ -41,10 +41,10 @@ use Rattle.genie_receiving.specs.Lemmas.Flat.{Gathers, recv_matched, payload_mov
 use Rattle.genie_receiving.specs.Lemmas.Gathered.{gathers, seen_before, IsFree}
 use Rattle.genie_receiving.specs.Lemmas.Good.{early_unpooled, none_received}
 use Rattle.genie_receiving.specs.Lemmas.Marking.{plain_steps, failed_steps}
-use Rattle.genie_receiving.proofs.Matched.{EndsPayload, taken_all, after_moving, received_kernel, flat_device, went_on}
-use Rattle.genie_receiving.proofs.Payloads.{ShowsLanded, IsInputOf, matched_datagram, moving_state}
+use Rattle.genie_receiving.specs.Lemmas.Matched.{EndsPayload, taken_all, after_moving, received_kernel, flat_device, went_on}
+use Rattle.genie_receiving.specs.Lemmas.Payloads.{ShowsLanded, IsInputOf, matched_datagram, moving_state}
 use Rattle.genie_receiving.specs.Lemmas.Views.{found_still, found_now, worked_again}
-use Rattle.genie_receiving.proofs.Within.{body_reply, inside_payload}
+use Rattle.genie_receiving.specs.Lemmas.Within.{body_reply, inside_payload}
 
 -- the work of an input that begins to receive
 abbrev pub work_begun : Transfer → Work

@@ -52,9 +52,9 @@ use Rattle.genie_kernel.specs.Lemmas.Staying.{at_least}
 use Rattle.genie_changes.specs.Places.{LiesInFrames, byte_at}
 use Rattle.genie_changes.specs.Premises.{ShowsPages}
 use Rattle.genie_receiving.specs.Laws.{ReceiveLaws}
-use Rattle.genie_receiving.proofs.Landed.{good_page}
+use Rattle.genie_receiving.specs.Lemmas.Landed.{good_page}
 use Rattle.genie_receiving.specs.Lemmas.Put.{processes_put}
-use Rattle.genie_receiving.proofs.Ready.{below, input_out, some_span, weak_holds}
+use Rattle.genie_receiving.specs.Lemmas.Ready.{below, input_out, some_span, weak_holds}
 use Rattle.genie_receiving.specs.Lemmas.Shown.{ShowsBeside, frames_same, payload_shown, state_beside}
 use Rattle.genie_receiving.proofs.Strong.{any_at, none_or, weak_covers}
 use Rattle.genie_receiving.proofs.Weak.{IsWeakInto, begins_in, covers_place}

@@ -48,13 +48,13 @@ use Rattle.genie_receiving.specs.Lemmas.Bytes.{append_none}
 use Rattle.genie_receiving.specs.Lemmas.Gathered.{gathered_device, gathered_reply, gathered_receives, early_kind, handle_is, IsSkipped}
 use Rattle.genie_receiving.specs.Lemmas.Good.{device_good, early_unpooled}
 use Rattle.genie_receiving.specs.Lemmas.Kept.{kept_alone}
-use Rattle.genie_receiving.proofs.Landed.{HasMoved, caused_body, ending_body, has_moved, replied, the_datagram, unbuffered}
+use Rattle.genie_receiving.specs.Lemmas.Landed.{HasMoved, caused_body, ending_body, has_moved, replied, the_datagram, unbuffered}
 use Rattle.genie_receiving.specs.Lemmas.Marking.{plain_steps, rest_same, zeros_with, zeros_rest, orderly_behind}
-use Rattle.genie_receiving.proofs.Matched.{EndsPayload, after_moving, moving_keeps}
+use Rattle.genie_receiving.specs.Lemmas.Matched.{EndsPayload, after_moving, moving_keeps}
 use Rattle.genie_receiving.proofs.Begun.{beginning}
 use Rattle.genie_receiving.proofs.Matching.{begun_device, early_free, early_kept, not_full, set_again}
 use Rattle.genie_receiving.proofs.Skipping.{skipping_steps}
-use Rattle.genie_receiving.proofs.Within.{body_reply}
+use Rattle.genie_receiving.specs.Lemmas.Within.{body_reply}
 
 -- the device is bad
 recv_of_bad : (s : flat.State) (d n : ℕ) (v : flat.Device) → entry s.devices d ≡ Some v → v.is_bad ≡ true → recv s d n ≡ (s, reply.Bad)

@@ -1,13 +1,6 @@
-pub mod Payloads
-pub mod Matched
-pub mod Within
 pub mod Begun
 pub mod Skipping
-pub mod Ready
-pub mod Zeros
 pub mod Strong
-pub mod Inputs
-pub mod Landed
 pub mod Matching
 pub mod EarlySteps
 pub mod Showing

@@ -62,16 +62,16 @@ use Rattle.genie_receiving.specs.Lemmas.Bytes.{append_none}
 use Rattle.genie_receiving.specs.Lemmas.Flat.{whole_true}
 use Rattle.genie_receiving.specs.Lemmas.Gathered.{IsFree, early_kind, first_met, handle_is, judged_whole}
 use Rattle.genie_receiving.specs.Lemmas.Good.{configured, input_good, landed_good, none_received}
-use Rattle.genie_receiving.proofs.Inputs.{is_met}
+use Rattle.genie_receiving.specs.Lemmas.Inputs.{is_met}
 use Rattle.genie_receiving.specs.Lemmas.Kept.{kept_worked}
-use Rattle.genie_receiving.proofs.Landed.{HasMoved, LandingsShow, bufferless, caused_body, ending_body, good_page, has_moved, only_landed, replied, stored_now, unposted, unqueued}
+use Rattle.genie_receiving.specs.Lemmas.Landed.{HasMoved, LandingsShow, bufferless, caused_body, ending_body, good_page, has_moved, only_landed, replied, stored_now, unposted, unqueued}
 use Rattle.genie_receiving.specs.Lemmas.Marking.{zeros_with, zeros_rest, orderly_behind}
-use Rattle.genie_receiving.proofs.Matched.{EndsPayload, after_moving, moving_keeps, received_kernel}
-use Rattle.genie_receiving.proofs.Payloads.{ShowsLanded, work_on}
-use Rattle.genie_receiving.proofs.Ready.{HasRange, plan_of}
+use Rattle.genie_receiving.specs.Lemmas.Matched.{EndsPayload, after_moving, moving_keeps, received_kernel}
+use Rattle.genie_receiving.specs.Lemmas.Payloads.{ShowsLanded, work_on}
+use Rattle.genie_receiving.specs.Lemmas.Ready.{HasRange, plan_of}
 use Rattle.genie_receiving.specs.Lemmas.Views.{found_now}
-use Rattle.genie_receiving.proofs.Within.{body_reply}
-use Rattle.genie_receiving.proofs.Zeros.{shows_zeros}
+use Rattle.genie_receiving.specs.Lemmas.Within.{body_reply}
+use Rattle.genie_receiving.specs.Lemmas.Zeros.{shows_zeros}
 
 never_busy : (a e c : Bool) → e ≡ true → (a && not e && c) ≡ false
 never_busy true true c h = refl

@@ -40,9 +40,9 @@ use Rattle.genie_kernel.specs.Planned.{AreItsOwn, LendsRange}
 use Rattle.genie_changes.specs.Working.{at_work, worked}
 use Rattle.genie_receiving.specs.Laws.{ReceiveLaws}
 use Rattle.genie_receiving.proofs.Begun.{begun_kernel, work_begun}
-use Rattle.genie_receiving.proofs.Landed.{LandingsShow}
-use Rattle.genie_receiving.proofs.Payloads.{IsInputOf, ShowsLanded, seen_transfer, take_none}
-use Rattle.genie_receiving.proofs.Ready.{HasRange, IsEarlyInput, can_land, plan_of, own_frames}
+use Rattle.genie_receiving.specs.Lemmas.Landed.{LandingsShow}
+use Rattle.genie_receiving.specs.Lemmas.Payloads.{IsInputOf, ShowsLanded, seen_transfer, take_none}
+use Rattle.genie_receiving.specs.Lemmas.Ready.{HasRange, IsEarlyInput, can_land, plan_of, own_frames}
 use Rattle.genie_receiving.proofs.Strong.{shows_strong}
 use Rattle.genie_receiving.specs.Lemmas.Views.{found_still}
 

@@ -34,9 +34,9 @@ use Rattle.genie_receiving.specs.Lemmas.Flat.{HasPresent, recv_within, payload_m
 use Rattle.genie_receiving.specs.Lemmas.Gathered.{set_same}
 use Rattle.genie_receiving.specs.Lemmas.Good.{early_unpooled}
 use Rattle.genie_receiving.specs.Lemmas.Marking.{plain_steps, failed_steps, rest_same}
-use Rattle.genie_receiving.proofs.Matched.{EndsPayload, taken_all, after_moving, moving_keeps, flat_device}
-use Rattle.genie_receiving.proofs.Payloads.{skipped_datagram, skipped_view, set_state}
-use Rattle.genie_receiving.proofs.Within.{some_left, body_reply, inside_payload}
+use Rattle.genie_receiving.specs.Lemmas.Matched.{EndsPayload, taken_all, after_moving, moving_keeps, flat_device}
+use Rattle.genie_receiving.specs.Lemmas.Payloads.{skipped_datagram, skipped_view, set_state}
+use Rattle.genie_receiving.specs.Lemmas.Within.{some_left, body_reply, inside_payload}
 
 module _ (k : Kernel) (b : Bytes) (d budget : ℕ) (v : DeviceView) (g : Present) (bytes rest : List ℕ) (good : IsGood k) (there : entry k.devices d ≡ Some v) (fine : v.is_bad ≡ false) (kind : v.config.kind ≡ Early) (early : is_early v.config.kind ≡ true) (present : v.present ≡ Some g) (unbuffered : g.buffer ≡ None)
     (receives : receiver k.transfers d ≡ None) (is : b.rests d ≡ bytes ++ rest) where

@@ -39,8 +39,8 @@ use Rattle.genie_kernel.specs.Same.{PoolsShowSame, ShowSame}
 use Rattle.genie_kernel.specs.Steps.{bytes_over}
 use Rattle.genie_kernel.specs.Transfers.{input_bytes, payload_of}
 use Rattle.genie_kernel.specs.View.{Bytes, state_of}
-use Rattle.genie_receiving.proofs.Payloads.{ShowsLanded, seen_transfer}
-use Rattle.genie_receiving.proofs.Ready.{span_covers}
+use Rattle.genie_receiving.specs.Lemmas.Payloads.{ShowsLanded, seen_transfer}
+use Rattle.genie_receiving.specs.Lemmas.Ready.{span_covers}
 use Rattle.genie_receiving.specs.Lemmas.Shown.{frames_same, payload_shown, orphans_shown, ShowsBeside, state_beside}
 
 -- the only one among these with a frame

@@ -41,10 +41,10 @@ use Rattle.genie_kernel.specs.View.{state_of}
 use Rattle.genie_changes.specs.Premises.{ShowsLeft}
 use Rattle.genie_receiving.specs.Laws.{ReceiveLaws}
 use Rattle.genie_receiving.specs.Receiving.{ArePages}
-use Rattle.genie_receiving.proofs.Landed.{good_page}
+use Rattle.genie_receiving.specs.Lemmas.Landed.{good_page}
 use Rattle.genie_receiving.specs.Lemmas.Owned.{same_number, same_object}
 use Rattle.genie_receiving.specs.Lemmas.Put.{processes_put, orphans_put}
-use Rattle.genie_receiving.proofs.Ready.{below, input_out, some_span, weak_holds}
+use Rattle.genie_receiving.specs.Lemmas.Ready.{below, input_out, some_span, weak_holds}
 use Rattle.genie_receiving.proofs.Strong.{none_or}
 
 -- a weak transfer keeps no address: its pages are counted from its place in the region

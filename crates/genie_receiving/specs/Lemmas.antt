@@ -12,3 +12,10 @@ pub mod Accepted
 pub mod Shown
 pub mod Owned
 pub mod Put
+pub mod Payloads
+pub mod Matched
+pub mod Within
+pub mod Ready
+pub mod Zeros
+pub mod Inputs
+pub mod Landed

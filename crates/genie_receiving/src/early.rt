@@ -76,8 +76,8 @@ fn receive_record<H: Host>(kernel: &mut Kernel, host: &mut H, dev: u32, n: u32) 
     }
 }
 
-// Whether a device is bad.
-fn is_bad(devices: &[Option<Device>; 8], dev: u32) -> bool
+/// Whether a device is bad.
+pub fn is_bad(devices: &[Option<Device>; 8], dev: u32) -> bool
     requires { IsSome (entry devices.now dev) }
     ensures { (v : DeviceView) → entry devices.now dev ≡ Some v → result ≡ v.is_bad }
 {

@@ -27,7 +27,7 @@ fn gather_from<H: Host>(device: &mut Device, host: &mut H, n: u32) -> HeaderStep
 }
 
 /// Gathers bytes of a header on one of the devices.
-pub(crate) fn gather<H: Host>(
+pub fn gather<H: Host>(
     devices: &mut [Option<Device>; 8],
     host: &mut H,
     dev: u32,
@@ -44,7 +44,7 @@ pub(crate) fn gather<H: Host>(
 }
 
 /// The reply to a step that moved header bytes alone.
-pub(crate) fn header_reply(moved: u32) -> Reply<'static>
+pub fn header_reply(moved: u32) -> Reply<'static>
     ensures { result ≡ header_reply moved }
 {
     if moved == 0 {

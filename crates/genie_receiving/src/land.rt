@@ -54,13 +54,22 @@ fn land<H: Host>(
 {
     let plan = plan_of(transfers, id);
     match &mut devices[dev as usize] {
-        Some(device) => move_into(device, host, frames, plan, taken, n),
+        Some(device) => move_into(
+            device,
+            host,
+            frames,
+            plan.loans.as_slice(),
+            plan.first,
+            plan.len,
+            taken,
+            n,
+        ),
         None => unreachable!(),
     }
 }
 
-// How a datagram of `len` bytes has met a buffer.
-fn note_of(truncated: bool, len: u32, buffer: u32) -> Note
+/// How a datagram of `len` bytes has met a buffer.
+pub fn note_of(truncated: bool, len: u32, buffer: u32) -> Note
     ensures { result ≡ note_of truncated len buffer }
 {
     if truncated {
@@ -113,8 +122,8 @@ fn advance(transfers: &mut Transfers, id: u32, moved: &Moved, len: u32)
     transfers.change(TransferId(id), change);
 }
 
-// What a step answers that has moved payload bytes, behind `taken` bytes of the header.
-fn reply_to(moved: &Moved, taken: u32) -> Reply<'static>
+/// What a step answers that has moved payload bytes, behind `taken` bytes of the header.
+pub fn reply_to(moved: &Moved, taken: u32) -> Reply<'static>
     requires { taken + moved.now.bytes < 2 ^ 32 }
     ensures { result ≡ reply_to moved.now taken }
 {

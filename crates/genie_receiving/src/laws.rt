@@ -8,8 +8,8 @@ use genie_changes::work::{
 };
 use genie_kernel::laws::accepted_events_step;
 
-// What a transfer at another point of its work leaves of the state and of what is true of a kernel.
-pub(crate) fn receive_laws()
+/// What a transfer at another point of its work leaves of the state and of what is true of a kernel.
+pub fn receive_laws()
     ensures { ReceiveLaws }
 {
     accepted_events_step();

@@ -7,9 +7,9 @@ ghost use Rattle.genie_receiving.specs.Payload.{MovesPayload};
 
 use crate::course::{Course, course_of, end_where_over, is_faulted};
 use genie_device::{Device, Landing};
-use genie_frame::Frames;
+use genie_frame::{Frames, InLoan};
 use genie_host::Host;
-use genie_plan::{FrameLanding, InPlan};
+use genie_plan::FrameLanding;
 
 /// What a step of a payload has done.
 #[derive(Clone, Copy, Debug, PartialEq, Eq)]
@@ -25,7 +25,7 @@ pub struct Moved {
 
 /// Moves at most `n` payload bytes of the present datagram, behind `taken` bytes of its header in the same step, and ends
 /// it with its last one, or where the input has ended.
-pub(crate) fn move_payload<H: Host, L: Landing>(
+pub fn move_payload<H: Host, L: Landing>(
     device: &mut Device,
     host: &mut H,
     landing: &mut L,
@@ -55,30 +55,32 @@ pub(crate) fn move_payload<H: Host, L: Landing>(
     }
 }
 
-/// The same into frames that are lent for an input.
-pub(crate) fn move_into<H: Host>(
+/// The same into frames that are lent for input: the `len` bytes from place `first` of the first one on.
+pub fn move_into<H: Host>(
     device: &mut Device,
     host: &mut H,
     frames: &mut Frames,
-    plan: &InPlan,
+    loans: &[InLoan],
+    first: u32,
+    len: u32,
     taken: u32,
     n: u32,
 ) -> Moved
     requires present { IsSome device.old.present }
     requires reading { IsReading device.old.config.input (H.view host.old) }
-    requires ready { CanLand frames.old (input_frames plan.now.loans.items) plan.now.first plan.now.len }
+    requires ready { CanLand frames.old (input_frames loans.now) first len }
     requires room { frames.old.landed + n < 2 ^ 64 }
-    ensures step { MovesPayload taken n (H.view host.old) (H.view host.new) device.old device.new (range_bytes frames.old (input_frames plan.now.loans.items) plan.now.first plan.now.len) (range_bytes frames.new (input_frames plan.now.loans.items) plan.now.first plan.now.len) result }
-    ensures only { OnlyRange (input_frames plan.now.loans.items) plan.now.first plan.now.len frames.old frames.new }
+    ensures step { MovesPayload taken n (H.view host.old) (H.view host.new) device.old device.new (range_bytes frames.old (input_frames loans.now) first len) (range_bytes frames.new (input_frames loans.now) first len) result }
+    ensures only { OnlyRange (input_frames loans.now) first len frames.old frames.new }
     ensures later { frames.old.landed ≤ frames.new.landed }
     ensures most { frames.new.landed ≤ frames.old.landed + n }
     ensures allowed { IfSome device.old.present (IsAllowed device.old.config.kind device.old.limit) }
 {
     let mut landing = FrameLanding {
         frames,
-        loans: plan.loans.as_slice(),
-        first: plan.first,
-        len: plan.len,
+        loans,
+        first,
+        len,
     };
     move_payload(device, host, &mut landing, taken, n)
 }

@@ -62,7 +62,7 @@ recv_bad s d n v taken rest g is whole within bad =
     ∙ ap (λ b. if b then begin_datagram s d (n - length taken) (record after { header = [] }) (v.header ++ taken) (length taken) else (set_device s d (record after { header = []; is_bad = true }), reply.Bad)) bad
 
 -- it begins a datagram
-recv_begins : (s : State) (d n : ℕ) (v : Device) (taken rest : List ℕ) → Gathers s d v → v.rest ≡ taken ++ rest → IsWhole (v.header ++ taken) → length taken ≤ n → is_valid_header (most v.kind s.config.page) (v.header ++ taken) ≡ true
+pub recv_begins : (s : State) (d n : ℕ) (v : Device) (taken rest : List ℕ) → Gathers s d v → v.rest ≡ taken ++ rest → IsWhole (v.header ++ taken) → length taken ≤ n → is_valid_header (most v.kind s.config.page) (v.header ++ taken) ≡ true
     → recv s d n ≡ begin_datagram s d (n - length taken) (record v { rest = rest; header = [] }) (v.header ++ taken) (length taken)
 recv_begins s d n v taken rest g is whole within good =
     let after : Device = record v { rest = rest; header = v.header ++ taken } in
@@ -179,17 +179,16 @@ both_true : (a b : Bool) → a ≡ true → b ≡ true → (a && b) ≡ true
 both_true true b e f = f
 both_true false b e f = e
 
--- after these bytes of a header, which an input has met, and of its payload
-pub may_fail_begun : (s : State) (d t : ℕ) (v : Device) (taken bytes rest : List ℕ) → Gathers s d v → v.rest ≡ taken ++ (bytes ++ rest) → IsWhole (v.header ++ taken) → is_valid_header (most v.kind s.config.page) (v.header ++ taken) ≡ true
-    → first_posted s d (port_in (v.header ++ taken)) (flow_in (v.header ++ taken)) ≡ Some t → stays_in_payload (bytes ++ rest) (len_in (v.header ++ taken)) (length bytes) ≡ true → may_fail_receiving s d (length taken + length bytes) ≡ true
-may_fail_begun s d t v taken bytes rest g is whole valid met inside =
+-- after these bytes of a header, whose record is received, and of its payload
+pub may_fail_received : (s : State) (d : ℕ) (v : Device) (taken bytes rest : List ℕ) → Gathers s d v → v.rest ≡ taken ++ (bytes ++ rest) → IsWhole (v.header ++ taken) → is_received s d v (v.header ++ taken) ≡ true
+    → stays_in_payload (bytes ++ rest) (len_in (v.header ++ taken)) (length bytes) ≡ true → may_fail_receiving s d (length taken + length bytes) ≡ true
+may_fail_received s d v taken bytes rest g is whole received inside =
     let k = length taken + length bytes in
     let header : List ℕ = v.header ++ taken in
     let count : header_taken k v.header v.rest ≡ length taken = ap (header_taken k v.header) is ∙ sym (whole_taken k v.header taken (bytes ++ rest) whole (omega arith)) in
     let front : take (header_taken k v.header v.rest) v.rest ≡ taken = (λ i. take (count i) (is i)) ∙ take_front taken (bytes ++ rest) in
     let behind : drop (header_taken k v.header v.rest) v.rest ≡ bytes ++ rest = (λ i. drop (count i) (is i)) ∙ drop_front taken (bytes ++ rest) in
     let left : k - length taken ≡ length bytes = omega arith in
-    let received : is_received s d v header ≡ true = both_true (is_valid_header (most v.kind s.config.page) header) (not (is_early v.kind) || is_some (first_posted s d (port_in header) (flow_in header))) valid (true_or (not (is_early v.kind)) (is_some (first_posted s d (port_in header) (flow_in header))) (ap is_some met)) in
     let here : stays_behind_header s d k v (header_taken k v.header v.rest) ≡ true =
     (λ i. if is_whole_header (v.header ++ front i) then is_received s d v (v.header ++ front i) && stays_in_payload (behind i) (len_in (v.header ++ front i)) (k - count i) else (count i == k))
     ∙ ap (λ b. if b then is_received s d v header && stays_in_payload (bytes ++ rest) (len_in header) (k - length taken) else (length taken == k)) (whole_true header whole)
@@ -199,3 +198,28 @@ may_fail_begun s d t v taken bytes rest g is whole valid met inside =
     ∙ ap (λ b. not b && ((k == 0) || stays_inside s d k v v.present)) g.free
     ∙ ap (λ p. (k == 0) || stays_inside s d k v p) g.absent
     ∙ true_or (k == 0) _ here
+
+-- so where an input has met the record
+pub may_fail_begun : (s : State) (d t : ℕ) (v : Device) (taken bytes rest : List ℕ) → Gathers s d v → v.rest ≡ taken ++ (bytes ++ rest) → IsWhole (v.header ++ taken) → is_valid_header (most v.kind s.config.page) (v.header ++ taken) ≡ true
+    → first_posted s d (port_in (v.header ++ taken)) (flow_in (v.header ++ taken)) ≡ Some t → stays_in_payload (bytes ++ rest) (len_in (v.header ++ taken)) (length bytes) ≡ true → may_fail_receiving s d (length taken + length bytes) ≡ true
+may_fail_begun s d t v taken bytes rest g is whole valid met inside =
+    let header : List ℕ = v.header ++ taken in
+    may_fail_received s d v taken bytes rest g is whole
+    (both_true (is_valid_header (most v.kind s.config.page) header) (not (is_early v.kind) || is_some (first_posted s d (port_in header) (flow_in header))) valid (true_or (not (is_early v.kind)) (is_some (first_posted s d (port_in header) (flow_in header))) (ap is_some met))) inside
+
+-- and on a device that isn't early
+pub may_fail_gathered : (s : State) (d : ℕ) (v : Device) (taken bytes rest : List ℕ) → Gathers s d v → v.rest ≡ taken ++ (bytes ++ rest) → IsWhole (v.header ++ taken) → is_valid_header (most v.kind s.config.page) (v.header ++ taken) ≡ true → is_early v.kind ≡ false
+    → stays_in_payload (bytes ++ rest) (len_in (v.header ++ taken)) (length bytes) ≡ true → may_fail_receiving s d (length taken + length bytes) ≡ true
+may_fail_gathered s d v taken bytes rest g is whole valid early inside =
+    let header : List ℕ = v.header ++ taken in
+    may_fail_received s d v taken bytes rest g is whole
+    (both_true (is_valid_header (most v.kind s.config.page) header) (not (is_early v.kind) || is_some (first_posted s d (port_in header) (flow_in header))) valid (ap (λ b. not b || is_some (first_posted s d (port_in header) (flow_in header))) early)) inside
+
+-- a device that isn't early gathers the payload
+pub recv_gathers : (s : State) (d n : ℕ) (v : Device) (taken rest : List ℕ) → Gathers s d v → v.rest ≡ taken ++ rest → IsWhole (v.header ++ taken) → length taken ≤ n → is_valid_header (most v.kind s.config.page) (v.header ++ taken) ≡ true → is_early v.kind ≡ false
+    → recv s d n ≡ receive_payload s d (n - length taken) (record v { rest = rest; header = [] }) (datagram (v.header ++ taken) Gathering) (length taken)
+recv_gathers s d n v taken rest g is whole within good early =
+    let header : List ℕ = v.header ++ taken in
+    let w : Device = record v { rest = rest; header = [] } in
+    recv_begins s d n v taken rest g is whole within good
+    ∙ ap (λ b. if b then match_header s d (n - length taken) w header (length taken) (first_posted s d (port_in header) (flow_in header)) else receive_payload s d (n - length taken) w (datagram header Gathering) (length taken)) early

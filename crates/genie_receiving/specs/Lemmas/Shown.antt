@@ -55,7 +55,7 @@ buffer_shown old new pools (Some v) d b (Some p) h e =
 
 -- the payload of a transfer whose frames show the same
 module _ (old new : ℕ → List ℕ) (pools : List (Option PoolState)) (h : PoolsShowSame old new pools) (devices : List (Option DeviceView)) (first : ℕ → Option Transfer) where
-  strong_shown : (f : List ℕ → List ℕ) (t : Transfer) → (is_strong_call t ≡ true → lent_bytes new t ≡ lent_bytes old t) → (if is_strong_call t then f (lent_bytes new t) else []) ≡ (if is_strong_call t then f (lent_bytes old t) else [])
+  pub strong_shown : (f : List ℕ → List ℕ) (t : Transfer) → (is_strong_call t ≡ true → lent_bytes new t ≡ lent_bytes old t) → (if is_strong_call t then f (lent_bytes new t) else []) ≡ (if is_strong_call t then f (lent_bytes old t) else [])
   strong_shown f t same = elim (is_strong_call t) as (λ c. is_strong_call t ≡ c → (if c then f (lent_bytes new t) else []) ≡ (if c then f (lent_bytes old t) else [])) [
     | true ↦ λ strong. ap f (same strong)
     | false ↦ λ weak. refl
@@ -72,7 +72,7 @@ module _ (old new : ℕ → List ℕ) (pools : List (Option PoolState)) (h : Poo
   payload_shown t same Inward = input_shown t same t.buffer
 
 -- the transfers, where each shows the same payload
-transfers_shown : (old new : ℕ → List ℕ) (devices : List (Option DeviceView)) (pools : List (Option PoolState)) (first : ℕ → Option Transfer) (ts : List Transfer) → ((t : Transfer) → Has t ts → payload_of new devices pools first t t.dir ≡ payload_of old devices pools first t t.dir) → map (transfer_view new devices pools first) ts ≡ map (transfer_view old devices pools first) ts
+pub transfers_shown : (old new : ℕ → List ℕ) (devices : List (Option DeviceView)) (pools : List (Option PoolState)) (first : ℕ → Option Transfer) (ts : List Transfer) → ((t : Transfer) → Has t ts → payload_of new devices pools first t t.dir ≡ payload_of old devices pools first t t.dir) → map (transfer_view new devices pools first) ts ≡ map (transfer_view old devices pools first) ts
 transfers_shown old new devices pools first [] h = refl
 transfers_shown old new devices pools first (t ∷ ts) h = ap₂ ◌∷◌ (ap (λ l. record (transfer_view old devices pools first t) { payload = l }) (h t (inl refl))) (transfers_shown old new devices pools first ts (λ u i. h u (inr i)))
 

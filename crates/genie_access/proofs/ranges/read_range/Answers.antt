@@ -1,7 +1,8 @@
 use Rattle.std.proofs.Common.{arith, ◌/◌, ◌+◌}
 use Rattle.genie_object.specs.Lemmas.Works.{page_most}
 use Rattle.genie_access.proofs.Pieces.{most_work}
-use Rattle.genie_access.proofs.Joined.{narrow_one, range_one, range_two, moves_twice, meters_left, gets_one}
+use Rattle.genie_access.proofs.Joined.{narrow_one, range_one, range_two, moves_twice, meters_left, gets_one, moves_object}
+use Rattle.genie_access.proofs.Copied.{read_one, read_two}
 use Rattle.genie_access.proofs.ranges.read_range.Goals as goal
 
 pub returns-then-first-n-clause-bytes : goal.returns-then-first-n-clause-bytes
@@ -30,3 +31,18 @@ returns-in-Ok-read_page-clause-narrow g c = λ i h. narrow_one c.args.object.0 (
 
 pub returns-in-Err-read_page-clause-narrow : goal.returns-in-Err-read_page-clause-narrow
 returns-in-Err-read_page-clause-narrow g c = λ i h. narrow_one c.args.object.0 (c.args.off / c.page-page.result) c.args.memory.now c.read_page.new.memory (g.S.Store.view c.args.store.now) (g.S.Store.view c.read_page.new.store) c.in-Ok.ensures.moves c.in-Ok.ensures.narrow i (narrow_one c.args.object.0 (c.args.off / c.page-page.result + 1) c.read_page.new.memory c.read_page-2.new.memory (g.S.Store.view c.read_page.new.store) (g.S.Store.view c.read_page-2.new.store) c.in-Err-read_page.ensures.moves c.in-Err-read_page.ensures.narrow i h)
+
+pub returns-in-Err-clause-copies : goal.returns-in-Err-clause-copies
+returns-in-Err-clause-copies g c = read_one c.args.memory.now c.read_page.new.memory c.args.object.0 c.args.off c.args.n c.page-page.result c.min-first.result _ c.page-page.ensures.size c.requires.some (omega (arith, c.min-first.ensures)) c.in-Err.ensures.meters
+
+pub returns-then-first-n-clause-moves : goal.returns-then-first-n-clause-moves
+returns-then-first-n-clause-moves g c = moves_object c.args.object.0 (c.args.off / c.page-page.result) c.args.memory.now c.read_page.new.memory (g.S.Store.view c.args.store.now) (g.S.Store.view c.read_page.new.store) c.in-Ok.ensures.moves
+
+pub returns-then-first-n-clause-copies : goal.returns-then-first-n-clause-copies
+returns-then-first-n-clause-copies g c = read_one c.args.memory.now c.read_page.new.memory c.args.object.0 c.args.off c.args.n c.page-page.result c.min-first.result _ c.page-page.ensures.size c.requires.some (omega (arith, c.min-first.ensures)) c.in-Ok.ensures.meters
+
+pub returns-in-Ok-read_page-clause-copies : goal.returns-in-Ok-read_page-clause-copies
+returns-in-Ok-read_page-clause-copies g c = read_two c.args.memory.now c.read_page.new.memory c.read_page-2.new.memory c.args.object.0 c.args.off c.args.n c.page-page.result c.min-first.result _ _ c.page-page.ensures.size (omega (arith, c.requires.some, c.requires.most, c.page-page.ensures.size)) (omega (arith, c.min-first.ensures)) (omega (arith, c.min-first.ensures, c.if-first-n.false)) c.in-Ok.ensures.meters c.in-Ok.ensures.moves.costs c.in-Ok.ensures.moves.keeps.page c.in-Ok-read_page.ensures.meters
+
+pub returns-in-Err-read_page-clause-copies : goal.returns-in-Err-read_page-clause-copies
+returns-in-Err-read_page-clause-copies g c = read_two c.args.memory.now c.read_page.new.memory c.read_page-2.new.memory c.args.object.0 c.args.off c.args.n c.page-page.result c.min-first.result _ _ c.page-page.ensures.size (omega (arith, c.requires.some, c.requires.most, c.page-page.ensures.size)) (omega (arith, c.min-first.ensures)) (omega (arith, c.min-first.ensures, c.if-first-n.false)) c.in-Ok.ensures.meters c.in-Ok.ensures.moves.costs c.in-Ok.ensures.moves.keeps.page c.in-Err-read_page.ensures.meters

@@ -2,6 +2,7 @@ use Rattle.std.proofs.Common.{arith, refl, ap, ◌≡◌, ◌∙◌, ◌/◌, �
 use Rattle.genie_object.specs.Lemmas.Works.{below_more}
 use Rattle.genie_access.proofs.Joined.{gets_one, moves_twice}
 use Rattle.genie_access.proofs.Stored.{meter_put, meters_on, ready_there, taken_rest, taken_size, there_put, write_small, wrote_one, wrote_two}
+use Rattle.genie_access.proofs.Copied.{copies_less, put_one, put_two, write_one, write_two}
 use Rattle.genie_access.proofs.storing.write_range.Goals as goal
 
 pub returns-then-first-n-clause-stored : goal.returns-then-first-n-clause-stored
@@ -44,3 +45,18 @@ write-requires-3-clause-meter g c =
 
 pub returns-clause-stored : goal.returns-clause-stored
 returns-clause-stored g c = wrote_two c.args.memory.now c.resolve_write.new.memory c.resolve_write-2.new.memory (g.S.Store.view c.args.store.now) (g.S.Store.view c.resolve_write.new.store) (g.S.Store.view c.resolve_write-2.new.store) c.args.object.0 c.args.off c.page-page.result (length c.args.bytes.now) c.min-first.result c.in-Ok.f c.in-Ok-resolve_write.g c.args.bytes.now (take c.min-first.result c.args.bytes.now) (take (length c.args.bytes.now - c.min-first.result) (drop c.min-first.result c.args.bytes.now)) c.write-2.new.self c.write-3.new.self (length (take c.min-first.result c.args.bytes.now)) (length (take (length c.args.bytes.now - c.min-first.result) (drop c.min-first.result c.args.bytes.now))) c.page-page.ensures.size refl c.requires.some c.requires.most c.requires.inside (omega (arith, c.min-first.ensures, c.if-first-n.false)) (omega (arith, c.min-first.ensures, c.if-first-n.false)) (g.met.S.Store.paged c.resolve_write-2.new.store) c.in-Ok.ensures.moves c.in-Ok.ensures.ready c.in-Ok-resolve_write.ensures.moves c.in-Ok-resolve_write.ensures.ready refl (taken_rest c.min-first.result c.args.bytes.now) c.write-2.ensures c.write-3.ensures
+
+pub returns-in-Err-clause-copies : goal.returns-in-Err-clause-copies
+returns-in-Err-clause-copies g c = copies_less _ _ c.args.memory.now c.resolve_write.new.memory (omega arith) (write_one c.args.memory.now c.resolve_write.new.memory c.args.object.0 c.args.off (length c.args.bytes.now) c.page-page.result _ c.page-page.ensures.size c.requires.some c.in-Err.ensures.meters)
+
+pub returns-then-first-n-clause-copies : goal.returns-then-first-n-clause-copies
+returns-then-first-n-clause-copies g c = put_one _ (length c.args.bytes.now) c.args.memory.now c.resolve_write.new.memory c.write.new.self _ _ _ (write_one c.args.memory.now c.resolve_write.new.memory c.args.object.0 c.args.off (length c.args.bytes.now) c.page-page.result _ c.page-page.ensures.size c.requires.some c.in-Ok.ensures.meters) c.write.ensures
+
+pub returns-in-Err-resolve_write-clause-copies : goal.returns-in-Err-resolve_write-clause-copies
+returns-in-Err-resolve_write-clause-copies g c = copies_less _ _ c.args.memory.now c.resolve_write-2.new.memory (omega arith) (write_two c.args.memory.now c.resolve_write.new.memory c.resolve_write-2.new.memory c.args.object.0 c.args.off (length c.args.bytes.now) c.page-page.result _ _ c.page-page.ensures.size (omega (arith, c.requires.some, c.requires.most, c.page-page.ensures.size)) (omega (arith, c.min-first.ensures, c.if-first-n.false)) c.in-Ok.ensures.meters c.in-Ok.ensures.moves.costs c.in-Ok.ensures.moves.keeps.page c.in-Err-resolve_write.ensures.meters)
+
+pub returns-clause-copies : goal.returns-clause-copies
+returns-clause-copies g c =
+    let size : length (take c.min-first.result c.args.bytes.now) ≡ c.min-first.result = taken_size c.min-first.result c.args.bytes.now (omega (arith, c.min-first.ensures)) in
+    let rest : length (take (length c.args.bytes.now - c.min-first.result) (drop c.min-first.result c.args.bytes.now)) ≡ length c.args.bytes.now - c.min-first.result = ap length (taken_rest c.min-first.result c.args.bytes.now) ∙ length-drop c.min-first.result c.args.bytes.now in
+    put_two _ (length (take c.min-first.result c.args.bytes.now)) (length (take (length c.args.bytes.now - c.min-first.result) (drop c.min-first.result c.args.bytes.now))) (length c.args.bytes.now) c.args.memory.now c.resolve_write-2.new.memory c.write-2.new.self c.write-3.new.self _ _ _ _ _ _ (omega (arith, size, rest, c.min-first.ensures)) (write_two c.args.memory.now c.resolve_write.new.memory c.resolve_write-2.new.memory c.args.object.0 c.args.off (length c.args.bytes.now) c.page-page.result _ _ c.page-page.ensures.size (omega (arith, c.requires.some, c.requires.most, c.page-page.ensures.size)) (omega (arith, c.min-first.ensures, c.if-first-n.false)) c.in-Ok.ensures.meters c.in-Ok.ensures.moves.costs c.in-Ok.ensures.moves.keeps.page c.in-Ok-resolve_write.ensures.meters) c.write-2.ensures c.write-3.ensures

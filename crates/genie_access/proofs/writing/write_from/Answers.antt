@@ -1,6 +1,7 @@
 use Rattle.std.proofs.Common.{refl, length}
 use Rattle.genie_access.proofs.Led.{led_inside}
 use Rattle.genie_access.proofs.Wrote.{wrote_at, wrote_seen}
+use Rattle.genie_access.proofs.Copied.{writes_bound}
 use Rattle.genie_access.proofs.writing.write_from.Goals as goal
 
 pub write_range-requires-clause-inside : goal.write_range-requires-clause-inside
@@ -11,3 +12,9 @@ returns-in-Ok-write_range-clause-stored g c = wrote_at c.args.kernel.now c.make_
 
 pub returns-in-Err-write_range-clause-failed : goal.returns-in-Err-write_range-clause-failed
 returns-in-Err-write_range-clause-failed g c = wrote_seen c.args.kernel.now c.make_two.new.kernel.memory c.write_range.new.memory (g.S.Store.view c.args.store.now) (g.S.Store.view c.make_two.new.store) (g.S.Store.view c.write_range.new.store) c.args.pid c.args.addr c.args.bytes.now c.find_place-off.result.0 c.find_place-off.result.1 c.requires.good c.requires.accepted c.find_place-off.ensures c.make_two.ensures.seen c.in-Err-write_range.ensures.failed
+
+pub returns-in-Ok-write_range-clause-copies : goal.returns-in-Ok-write_range-clause-copies
+returns-in-Ok-write_range-clause-copies g c = writes_bound c.args.kernel.now c.make_two.new.kernel.memory c.write_range.new.memory c.args.pid c.args.addr c.args.bytes.now c.find_place-off.result.0 c.find_place-off.result.1 c.requires.good c.find_place-off.ensures c.make_two.ensures.costs c.make_two.ensures.copies c.write_range.ensures.copies
+
+pub returns-in-Err-write_range-clause-copies : goal.returns-in-Err-write_range-clause-copies
+returns-in-Err-write_range-clause-copies g c = writes_bound c.args.kernel.now c.make_two.new.kernel.memory c.write_range.new.memory c.args.pid c.args.addr c.args.bytes.now c.find_place-off.result.0 c.find_place-off.result.1 c.requires.good c.find_place-off.ensures c.make_two.ensures.costs c.make_two.ensures.copies c.write_range.ensures.copies

@@ -42,8 +42,8 @@ use Rattle.genie_receiving.specs.Lemmas.Bytes.{none_taken, payload_is}
 use Rattle.genie_receiving.specs.Lemmas.Flat.{HasPresent, recv_within, payload_moved, may_fail_within}
 use Rattle.genie_receiving.specs.Lemmas.Gathered.{set_same}
 use Rattle.genie_receiving.specs.Lemmas.Marking.{plain_steps, failed_steps, rest_same}
-use Rattle.genie_receiving.proofs.Matched.{EndsPayload, taken_all, after_moving, received_kernel, flat_device, went_on}
-use Rattle.genie_receiving.proofs.Payloads.{ShowsLanded, IsInputOf, matched_datagram, matched_view, numbered, work_on}
+use Rattle.genie_receiving.specs.Lemmas.Matched.{EndsPayload, taken_all, after_moving, received_kernel, flat_device, went_on}
+use Rattle.genie_receiving.specs.Lemmas.Payloads.{ShowsLanded, IsInputOf, matched_datagram, matched_view, numbered, work_on}
 use Rattle.genie_receiving.specs.Lemmas.Views.{worked_same}
 use Rattle.genie_receiving.specs.Lemmas.Good.{early_unpooled}
 

@@ -30,7 +30,7 @@ use Rattle.genie_receiving.specs.Laws.{ReceiveLaws}
 use Rattle.genie_receiving.specs.Receiving.{MayBeLeft}
 use Rattle.genie_receiving.specs.Lemmas.Bytes.{payload_is}
 use Rattle.genie_receiving.specs.Lemmas.Flat.{goes_on, is_over, is_cut_off}
-use Rattle.genie_receiving.proofs.Payloads.{ShowsLanded, IsInputOf, matched_datagram, matched_view, set_state, numbered, work_on, work_over, receives_still, landed_state, over_state}
+use Rattle.genie_receiving.specs.Lemmas.Payloads.{ShowsLanded, IsInputOf, matched_datagram, matched_view, set_state, numbered, work_on, work_over, receives_still, landed_state, over_state}
 use Rattle.genie_receiving.specs.Lemmas.Views.{found_still, worked_again}
 
 -- how a step of a payload ended that moved so many of the bytes left: whether it ended because the input had

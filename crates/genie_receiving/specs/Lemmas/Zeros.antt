@@ -18,13 +18,13 @@ use Rattle.genie_kernel.specs.Orphans.{covers, is_orphan, lent_bytes, byte_under
 use Rattle.genie_kernel.specs.Regions.{owned_regions, object_bytes, region_view, process_view, processes_view}
 use Rattle.genie_kernel.specs.View.{state_of}
 use Rattle.genie_receiving.specs.Lemmas.Marking.{zeros_with}
-use Rattle.genie_receiving.proofs.Payloads.{ShowsLanded, seen_transfer}
-use Rattle.genie_receiving.proofs.Ready.{HasRange, span_covers}
+use Rattle.genie_receiving.specs.Lemmas.Payloads.{ShowsLanded, seen_transfer}
+use Rattle.genie_receiving.specs.Lemmas.Ready.{HasRange, span_covers}
 
 abbrev pub zeros : ℕ → List ℕ
 zeros n = replicate n 0
 
-zeros_more : (a b : ℕ) → zeros a ++ zeros b ≡ zeros (a + b)
+pub zeros_more : (a b : ℕ) → zeros a ++ zeros b ≡ zeros (a + b)
 zeros_more zero b = let e : b ≡ 0 + b = omega arith in ap zeros e
 zeros_more (suc a) b = let e : suc (a + b) ≡ suc a + b = omega arith in ap (λ l. 0 ∷ l) (zeros_more a b) ∙ ap zeros e
 
@@ -33,7 +33,7 @@ zeros_taken zero m = let e : 0 ≡ min 0 m = omega arith in ap zeros e
 zeros_taken (suc n) zero = let e : 0 ≡ min (suc n) 0 = omega arith in ap zeros e
 zeros_taken (suc n) (suc m) = let e : suc (min n m) ≡ min (suc n) (suc m) = omega arith in ap (λ l. 0 ∷ l) (zeros_taken n m) ∙ ap zeros e
 
-zeros_dropped : (n m : ℕ) → drop n (zeros m) ≡ zeros (m - n)
+pub zeros_dropped : (n m : ℕ) → drop n (zeros m) ≡ zeros (m - n)
 zeros_dropped zero m = let e : m ≡ m - 0 = omega arith in ap zeros e
 zeros_dropped (suc n) zero = let e : 0 ≡ 0 - suc n = omega arith in ap zeros e
 zeros_dropped (suc n) (suc m) = let e : m - n ≡ suc m - suc n = omega arith in zeros_dropped n m ∙ ap zeros e
@@ -50,7 +50,7 @@ zero_at (suc n) zero = refl
 zero_at (suc n) (suc i) = zero_at n i
 
 -- pages of zeros, one after the other
-pages_zero : (page : ℕ) (xs : List ℕ) → flat_map (λ (f : ℕ). zeros page) xs ≡ zeros (length xs * page)
+pub pages_zero : (page : ℕ) (xs : List ℕ) → flat_map (λ (f : ℕ). zeros page) xs ≡ zeros (length xs * page)
 pages_zero page [] = let e : 0 ≡ 0 * page = omega arith in ap zeros e
 pages_zero page (x ∷ xs) = let e : page + length xs * page ≡ suc (length xs) * page = omega arith in ap (λ l. zeros page ++ l) (pages_zero page xs) ∙ zeros_more page (length xs * page) ∙ ap zeros e
 

@@ -53,14 +53,14 @@ use Rattle.genie_receiving.specs.Lemmas.Accepted.{may_receive}
 use Rattle.genie_receiving.specs.Lemmas.Bytes.{append_none}
 use Rattle.genie_receiving.specs.Lemmas.Gathered.{early_kind, handle_is}
 use Rattle.genie_receiving.specs.Lemmas.Good.{input_good, landed_good}
-use Rattle.genie_receiving.proofs.Inputs.{IsReceiver, is_receiver, is_stored}
+use Rattle.genie_receiving.specs.Lemmas.Inputs.{IsReceiver, is_receiver, is_stored}
 use Rattle.genie_receiving.specs.Lemmas.Kept.{kept_worked}
 use Rattle.genie_receiving.specs.Lemmas.Marking.{zeros_with, zeros_rest, orderly_behind}
-use Rattle.genie_receiving.proofs.Matched.{EndsPayload, after_moving, moving_keeps, moved_device, received_kernel}
-use Rattle.genie_receiving.proofs.Payloads.{ShowsLanded, work_on, receives_still}
-use Rattle.genie_receiving.proofs.Ready.{plan_of}
-use Rattle.genie_receiving.proofs.Within.{within_steps, body_reply}
-use Rattle.genie_receiving.proofs.Zeros.{shows_zeros}
+use Rattle.genie_receiving.specs.Lemmas.Matched.{EndsPayload, after_moving, moving_keeps, moved_device, received_kernel}
+use Rattle.genie_receiving.specs.Lemmas.Payloads.{ShowsLanded, work_on, receives_still}
+use Rattle.genie_receiving.specs.Lemmas.Ready.{plan_of}
+use Rattle.genie_receiving.specs.Lemmas.Within.{within_steps, body_reply}
+use Rattle.genie_receiving.specs.Lemmas.Zeros.{shows_zeros}
 
 -- how a step of a payload ended over a host
 pub record EndingBody (end : BodyEnd) (left n moved : ℕ) (told : Option (List ℕ)) : Type 0 where

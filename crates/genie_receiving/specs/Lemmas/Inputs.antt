@@ -27,8 +27,8 @@ use Rattle.genie_kernel.specs.Transfers.{transfer_view}
 use Rattle.genie_kernel.specs.View.{outline, no_bytes}
 use Rattle.genie_receiving.specs.Laws.{ReceiveLaws}
 use Rattle.genie_receiving.specs.Lemmas.Gathered.{found_posted}
-use Rattle.genie_receiving.proofs.Payloads.{IsInputOf}
-use Rattle.genie_receiving.proofs.Ready.{IsEarlyInput}
+use Rattle.genie_receiving.specs.Lemmas.Payloads.{IsInputOf}
+use Rattle.genie_receiving.specs.Lemmas.Ready.{IsEarlyInput}
 
 phase_moving : (p : Phase) → is_moving p ≡ true → p ≡ Moving
 phase_moving Queued e = absurd (cc)

@@ -1,0 +1,17 @@
+pub mod Bytes
+pub mod Flat
+pub mod Buffers
+pub mod Views
+pub mod Ending
+pub mod Marking
+pub mod Good
+pub mod Handles
+pub mod Kept
+pub mod Counting
+pub mod Gathered
+pub mod Steps
+pub mod Header
+pub mod Received
+pub mod Accepted
+pub mod Telling
+pub mod Outboards

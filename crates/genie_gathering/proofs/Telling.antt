@@ -1,0 +1,134 @@
+-- A receive step where host and store tell their bytes.
+use Rattle.std.proofs.Common.{◌≡◌, ◌≢◌, ℕ, ◌<◌, zero, suc, List, [], ◌∷◌, ◌++◌, refl, sym, ap, subst, arith, ◌∙◌, length, map, get_or, set, inl, inr, eq-eqb}
+use Rattle.std.specs.Prelude.{Option, Some, None, option_and_then, ◌==◌, if◌then◌else◌}
+use Rattle.std.specs.Option.{option_map}
+use Rattle.std.specs.Io.KnownBytes.{Consumes, IsAtEnd}
+use Rattle.std.proofs.lemmas.Bool.{ne_eqb}
+use Rattle.genie_base.specs.Lemmas.Places.{set_at}
+use Rattle.genie_base.specs.declared.config.Config.{Config}
+use Rattle.genie_base.specs.declared.config.DeviceConfig.{DeviceConfig}
+use Rattle.genie_base.specs.declared.event.Event.TheVariants.{Recv}
+use Rattle.genie_base.specs.declared.reply.Reply.{Reply}
+use Rattle.genie_host.specs.Host.{HostView, HandleState, OthersKept}
+use Rattle.genie_object.specs.Memory.{seen}
+use Rattle.genie_store.specs.StoreView.{StoreView}
+use Rattle.genie_model.specs.Refusing.{refuse}
+use Rattle.genie_model.specs.Tables.{entry}
+use Rattle.genie_kernel.specs.declared.kernel.Kernel.{Kernel}
+use Rattle.genie_kernel.specs.Handles.{HasHandles}
+use Rattle.genie_kernel.specs.Steps.{StepsTold}
+use Rattle.genie_kernel.specs.Told.{told, told_at, input_at, output_at, rests_of, sents_of, by_number}
+use Rattle.genie_kernel.specs.View.{Bytes, bytes_with, state_of, outline, view}
+use Rattle.genie_kernel.specs.Lemmas.OpenHandles.{handles_kept}
+use Rattle.genie_kernel.specs.Lemmas.Stepping.{accepted_step}
+use Rattle.genie_gathering.specs.Receiving.{Receives, input_of}
+use Rattle.genie_gathering.proofs.Handles.{IsAlone, input_alone}
+
+option_same : (before after : HostView) (h : ℕ) (o : Option ℕ) → o ≢ Some h → OthersKept h before.handle after.handle → told_at after o ≡ told_at before o
+option_same before after h None other kept = refl
+option_same before after h (Some a) other kept = ap (λ (s : HandleState). s.bytes) (kept a (λ e. other (ap Some e)))
+
+-- what other handles tell is as before
+told_same : (before after : HostView) (h : ℕ) (f : Option DeviceConfig → Option ℕ) (ds : List (Option DeviceConfig)) → f None ≡ None → ((j : ℕ) → f (entry ds j) ≢ Some h) → OthersKept h before.handle after.handle → told after (map f ds) ≡ told before (map f ds)
+told_same before after h f [] none other kept = refl
+told_same before after h f (x ∷ ds) none other kept =
+    let first = option_same before after h (f x) (other 0) kept in
+    let later = told_same before after h f ds none (λ j. other (suc j)) kept in
+    λ i. option_and_then (λ bytes. option_map (λ rest. bytes ∷ rest) (later i)) (first i)
+
+-- the bytes of the first one and of the others
+record Parts (first : Option (List ℕ)) (later : Option (List (List ℕ))) (rs : List (List ℕ)) : Type 0 where
+  pub head : List ℕ
+  pub tail : List (List ℕ)
+  pub head_is : first ≡ Some head
+  pub tail_is : later ≡ Some tail
+  pub joined : rs ≡ head ∷ tail
+
+parts : (first : Option (List ℕ)) (later : Option (List (List ℕ))) (rs : List (List ℕ)) → option_and_then (λ bytes. option_map (λ rest. bytes ∷ rest) later) first ≡ Some rs → Parts first later rs
+parts None later rs e = absurd (cc)
+parts (Some x) None rs e = absurd (cc)
+parts (Some x) (Some xs) rs e = record { head = x; tail = xs; head_is = refl; tail_is = refl; joined = cc }
+
+consumed : (old new : Option (List ℕ)) (taken xs : List ℕ) → old ≡ Some xs → Consumes old new taken → (ys : List ℕ) × (new ≡ Some ys) × (xs ≡ taken ++ ys)
+consumed None new taken xs e h = absurd (cc)
+consumed (Some x) None taken xs e h = absurd h
+consumed (Some x) (Some y) taken xs e h = let same : x ≡ xs = cc in (y, refl, sym same ∙ h)
+
+-- what is told afterwards
+record Left (d : ℕ) (taken : List ℕ) (after : HostView) (h : ℕ) (ds : List (Option DeviceConfig)) (rs : List (List ℕ)) : Type 0 where
+  pub rest : List ℕ
+  pub told_rest : (after.handle h).bytes ≡ Some rest
+  pub is : get_or rs d [] ≡ taken ++ rest
+  pub place : d < length rs
+  pub now : told after (map input_at ds) ≡ Some (set rs d rest)
+
+told_left : (before after : HostView) (h d : ℕ) (taken : List ℕ) (ds : List (Option DeviceConfig)) (rs : List (List ℕ)) → input_at (entry ds d) ≡ Some h → ((j : ℕ) → j ≢ d → input_at (entry ds j) ≢ Some h) → OthersKept h before.handle after.handle → Consumes (before.handle h).bytes (after.handle h).bytes taken → told before (map input_at ds) ≡ Some rs → Left d taken after h ds rs
+told_left before after h d taken [] rs at other kept bytes e = absurd (cc)
+told_left before after h zero taken (x ∷ ds) rs at other kept bytes e =
+    let p = parts (told_at before (input_at x)) (told before (map input_at ds)) rs e in
+    let old : (before.handle h).bytes ≡ Some p.head = sym (ap (told_at before) at) ∙ p.head_is in
+    let c = consumed (before.handle h).bytes (after.handle h).bytes taken p.head old bytes in
+    let later : told after (map input_at ds) ≡ Some p.tail = told_same before after h input_at ds refl (λ j. other (suc j) (λ z. absurd (omega (arith, z)))) kept ∙ p.tail_is in
+    let first : told_at after (input_at x) ≡ Some c.0 = ap (told_at after) at ∙ c.1 in
+    record {
+      rest = c.0;
+      told_rest = c.1;
+      is = ap (λ l. get_or l 0 []) p.joined ∙ c.2;
+      place = subst (λ (l : List (List ℕ)). 0 < length l) (sym p.joined) (omega arith);
+      now = (λ i. option_and_then (λ y. option_map (λ l. y ∷ l) (later i)) (first i)) ∙ ap (λ l. Some (set l 0 c.0)) (sym p.joined);
+    }
+told_left before after h (suc d) taken (x ∷ ds) rs at other kept bytes e =
+    let p = parts (told_at before (input_at x)) (told before (map input_at ds)) rs e in
+    let l = told_left before after h d taken ds p.tail at (λ j n. other (suc j) (λ z. n (omega (arith, z)))) kept bytes p.tail_is in
+    let now : told after (map input_at ds) ≡ Some (set p.tail d l.rest) = l.now in
+    let first : told_at after (input_at x) ≡ Some p.head = option_same before after h (input_at x) (other 0 (λ z. absurd (omega (arith, z)))) kept ∙ p.head_is in
+    record {
+      rest = l.rest;
+      told_rest = l.told_rest;
+      is = ap (λ r. get_or r (suc d) []) p.joined ∙ l.is;
+      place = subst (λ (r : List (List ℕ)). suc d < length r) (sym p.joined) (omega (arith, l.place));
+      now = (λ i. option_and_then (λ y. option_map (λ r. y ∷ r) (now i)) (first i)) ∙ ap (λ r. Some (set r (suc d) l.rest)) (sym p.joined);
+    }
+
+-- by numbers of devices
+left_at : (rs : List (List ℕ)) (d j : ℕ) (rest : List ℕ) → d < length rs → by_number (set rs d rest) j ≡ (if j == d then rest else by_number rs j)
+left_at rs d j rest place = elim (set_at rs d j rest [] place) [
+  | inl h ↦ h.1 ∙ sym (ap (λ c. if c then rest else by_number rs j) (eq-eqb j d h.0))
+  | inr h ↦ h.1 ∙ sym (ap (λ c. if c then rest else by_number rs j) (ne_eqb j d h.0))
+]
+
+end_left : (told : Option (List ℕ)) (rest : List ℕ) → told ≡ Some rest → IsAtEnd told → rest ≡ []
+end_left None rest e h = absurd (cc)
+end_left (Some x) rest e h = let same : x ≡ rest = cc in sym same ∙ h
+
+module _ (d n : ℕ) (before after : HostView) (store : StoreView) (old new : Kernel) (r : Reply) (accepted : refuse (outline old) (Recv d n) ≡ None) (alone : IsAlone old.config d (input_of old.config d)) (h : Receives d n before after old new r) where
+  told_steps : (slots : Option (ℕ → List ℕ)) (rs ss : Option (List (List ℕ))) → told before (map input_at old.config.devices) ≡ rs → told before (map output_at old.config.devices) ≡ ss
+      → StepsTold (option_map (state_of old) (bytes_with (option_map (seen old.memory) slots) (option_map by_number rs) (option_map by_number ss))) (Recv d n) (option_map (state_of new) (bytes_with (option_map (seen new.memory) slots) (rests_of after old.config) (sents_of after old.config))) r
+  told_steps None rs ss e f = tt
+  told_steps (Some slots) None ss e f = tt
+  told_steps (Some slots) (Some rs) None e f = tt
+  told_steps (Some slots) (Some rs) (Some ss) e f =
+      let left = told_left before after (input_of old.config d) d h.taken old.config.devices rs alone.input alone.inputs h.only.others h.bytes e in
+      let out : sents_of after old.config ≡ Some (by_number ss) = ap (option_map by_number) (told_same before after (input_of old.config d) output_at old.config.devices refl alone.outputs h.only.others ∙ f) in
+      let rest : ℕ → List ℕ = by_number rs in
+      let sent : ℕ → List ℕ = by_number ss in
+      let steps = h.steps slots rest sent left.rest left.is (λ ended. end_left _ left.rest left.told_rest (h.at_end ended)) in
+      let now : Bytes = record { seen = seen new.memory slots; rests = λ j. if j == d then left.rest else rest j; sents = sent } in
+      let same : by_number (set rs d left.rest) ≡ (λ j. if j == d then left.rest else rest j) = λ i j. left_at rs d j left.rest left.place i in
+      let told_now : rests_of after old.config ≡ Some (λ j. if j == d then left.rest else rest j) = ap (option_map by_number) left.now ∙ ap Some same in
+      let old_bytes : Bytes = record { seen = seen old.memory slots; rests = rest; sents = sent } in
+      subst (λ (x : Option (ℕ → List ℕ)). StepsTold (Some (state_of old old_bytes)) (Recv d n) (option_map (state_of new) (bytes_with (Some (seen new.memory slots)) x (sents_of after old.config))) r) (sym told_now)
+      (subst (λ (x : Option (ℕ → List ℕ)). StepsTold (Some (state_of old old_bytes)) (Recv d n) (option_map (state_of new) (bytes_with (Some (seen new.memory slots)) (Some (λ j. if j == d then left.rest else rest j)) x)) r) (sym out)
+      (accepted_step old old_bytes (Recv d n) (state_of new now) r accepted steps))
+
+  received_told : StepsTold (view old before store) (Recv d n) (view new after store) r
+  received_told = subst (λ (c : Config). StepsTold (view old before store) (Recv d n) (option_map (state_of new) (bytes_with (option_map (seen new.memory) store.slots) (rests_of after c) (sents_of after c))) r) (sym h.config)
+      (told_steps store.slots (told before (map input_at old.config.devices)) (told before (map output_at old.config.devices)) refl refl)
+
+-- it is one step of the flat machine, over any store
+pub step_told : (d n : ℕ) (before after : HostView) (old new : Kernel) (r : Reply) → refuse (outline old) (Recv d n) ≡ None → HasHandles old.config before → input_at (entry old.config.devices d) ≡ Some (input_of old.config d) → Receives d n before after old new r → (store : StoreView) → StepsTold (view old before store) (Recv d n) (view new after store) r
+step_told d n before after old new r accepted handles input h store = received_told d n before after store old new r accepted (input_alone old.config before d (input_of old.config d) handles input) h
+
+-- and each handle stays open
+pub handles_stay : (d n : ℕ) (before after : HostView) (old new : Kernel) (r : Reply) → HasHandles old.config before → Receives d n before after old new r → HasHandles new.config after
+handles_stay d n before after old new r handles h = subst (λ (c : Config). HasHandles c after) (sym h.config) (handles_kept old.config (input_of old.config d) before after h.only handles)

@@ -1,0 +1,4 @@
+pub mod Buffers
+pub mod Filling
+pub mod Delivering
+pub mod Pooled

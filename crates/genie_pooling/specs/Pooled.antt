@@ -1,0 +1,1 @@
+-- The receive step of a pooled device.

@@ -1,0 +1,8 @@
+//! The kernel's receive step on pooled devices: a device gathers a datagram in a buffer of its pool, and once it has ended, the
+//! first posted input that it meets has the buffer.
+#![tactic(auto)]
+
+pub mod buffers;
+pub mod deliver;
+pub mod filling;
+pub mod pooled;
