@@ -12,6 +12,8 @@ mod PooledEnd
 mod PooledShare
 mod PooledCases
 mod PooledLive
+mod PooledOwn
+mod PooledAim
 mod Blank
 mod WeakPlan
 mod Landing

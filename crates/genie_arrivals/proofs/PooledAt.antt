@@ -1,6 +1,6 @@
 -- What is known of a pooled device and of the buffer in which the datagram of an input waits.
-use Rattle.std.proofs.Common.{◌≡◌, ℕ, ◌+◌, ◌-◌, ◌*◌, ◌<◌, ◌≤◌, zero, suc, true, false, List, [], ◌∷◌, refl, sym, ap, subst, arith, rules, ◌∙◌, length, take, drop, map, get_or}
-use Rattle.std.specs.Prelude.{Option, Some, None, IfSome, find, is_some, flat_map, ◌==◌, ◌&&◌, not, if◌then◌else◌}
+use Rattle.std.proofs.Common.{◌≡◌, ℕ, ◌*◌, ◌<◌, ◌≤◌, zero, suc, true, false, List, [], ◌∷◌, refl, sym, ap, subst, arith, ◌∙◌, length, take, drop, map, get_or}
+use Rattle.std.specs.Prelude.{Option, Some, None, IfSome, find, is_some, flat_map, if◌then◌else◌}
 use Rattle.std.specs.Option.{option_map}
 use Rattle.genie_base.specs.Bytes.{part}
 use Rattle.genie_base.specs.Configs as config
@@ -18,7 +18,7 @@ use Rattle.genie_input.specs.Pools.{IsPool, PoolState, is_held}
 use Rattle.genie_input.specs.declared.pool.BufferState.{BufferState}
 use Rattle.genie_input.specs.declared.pool.BufferState.TheVariants.{Free}
 use Rattle.genie_object.specs.Memory.{is_kept, seen}
-use Rattle.genie_plan.specs.Plans.{input_frames, joined, range_bytes, times}
+use Rattle.genie_plan.specs.Plans.{input_frames, range_bytes, times}
 use Rattle.genie_plan.specs.Lemmas.Ranges.{times-cons, times_at}
 use Rattle.genie_model.specs.Lemmas.Lists.{all_has, at_entry, find_has}
 use Rattle.genie_model.specs.Pending.{is_ready}

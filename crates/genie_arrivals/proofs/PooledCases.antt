@@ -1,5 +1,5 @@
 -- An input on a pooled device that has nowhere to put its bytes.
-use Rattle.std.proofs.Common.{◌≡◌, ℕ, false, refl, sym, ap, subst, ◌∙◌}
+use Rattle.std.proofs.Common.{◌≡◌, ℕ, false, ap, ◌∙◌}
 use Rattle.std.specs.Prelude.{Option, Some, None, IfSome, IsSome, find}
 use Rattle.genie_base.specs.Transfers.{class_of, is_strong}
 use Rattle.genie_base.specs.declared.semantics.Class.{Class}
@@ -10,7 +10,7 @@ use Rattle.genie_kernel.specs.Calls.{has_number}
 use Rattle.genie_kernel.specs.Regions.{owned_regions}
 use Rattle.genie_arrivals.specs.Pooled.{IsOwned, IsPooledInput, IsPooledOf}
 use Rattle.genie_arrivals.specs.Replies.{is_there}
-use Rattle.genie_arrivals.specs.Waiting.{IsGoneWaiting, IsLateGone, IsLateLost, IsLostWaiting, LosesBytes}
+use Rattle.genie_arrivals.specs.Waiting.{IsLateGone, IsLateLost, LosesBytes}
 use Rattle.genie_arrivals.proofs.PooledAt.{pooled_waits}
 use Rattle.genie_arrivals.proofs.PooledShare.{some_owner}
 

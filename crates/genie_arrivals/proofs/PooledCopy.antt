@@ -1,5 +1,5 @@
 -- A kernel is good where bytes are copied to the pages of a range, which stay where they are.
-use Rattle.std.proofs.Common.{◌≡◌, ℕ, List, refl, sym, ap, subst}
+use Rattle.std.proofs.Common.{◌≡◌, ℕ, List, sym, subst}
 use Rattle.genie_frame.specs.declared.frame.Meters.{Meters}
 use Rattle.genie_finish.specs.Copies.{CopiesRange}
 use Rattle.genie_hiding.specs.Hidden.{objects_of}

@@ -1,6 +1,6 @@
 -- An input ends whose bytes were copied from a buffer of its device's pool to a region.
 use Rattle.std.proofs.Common.{◌≡◌, ℕ, ◌+◌, ◌/◌, ◌≤◌, true, false, List, refl, sym, ap, subst, ◌∙◌, length, drop}
-use Rattle.std.specs.Prelude.{Option, Some, None, find, flat_map, slice_index_or, if◌then◌else◌}
+use Rattle.std.specs.Prelude.{Some, None, find, flat_map, slice_index_or, if◌then◌else◌}
 use Rattle.std.specs.List.{range_with_len}
 use Rattle.std.specs.Option.{option_map, option_and_then}
 use Rattle.genie_base.specs.Bytes.{overlaid}

@@ -1,6 +1,6 @@
 -- A weak move input on a pooled device ends: its region has the bytes, and is Live.
 use Rattle.std.proofs.Common.{◌≡◌, ℕ, ◌*◌, false, List, refl, sym, ap, subst, ◌∙◌}
-use Rattle.std.specs.Prelude.{Option, Some, None, IfSome, IsSome, find, if◌then◌else◌}
+use Rattle.std.specs.Prelude.{Some, None, IsSome, find, if◌then◌else◌}
 use Rattle.genie_base.specs.Transfers.{class_of}
 use Rattle.genie_base.specs.declared.event.Event.TheVariants.{Finish}
 use Rattle.genie_base.specs.declared.region.RegionState.TheVariants as state
@@ -15,13 +15,10 @@ use Rattle.genie_model.specs.Pending.{is_early_at}
 use Rattle.genie_model.specs.Refusing.{refuse}
 use Rattle.genie_model.specs.Regions as model
 use Rattle.genie_model.specs.Regions.{put}
-use Rattle.genie_model.specs.Space.{tidy}
 use Rattle.genie_model.specs.State as flat
-use Rattle.genie_model.specs.Tables.{entry}
 use Rattle.genie_orderly.specs.Orderly.{IsOrderly}
 use Rattle.genie_kernel.specs.declared.kernel.Kernel.{Kernel}
 use Rattle.genie_kernel.specs.declared.transfer.Transfer.{Transfer}
-use Rattle.genie_kernel.specs.Calls.{has_number, region_number}
 use Rattle.genie_kernel.specs.Good.{IsGood}
 use Rattle.genie_kernel.specs.Regions.{has_id, owned_regions, region_view}
 use Rattle.genie_kernel.specs.Steps.{bytes_over}
@@ -39,7 +36,7 @@ use Rattle.genie_arrivals.proofs.Found.{found_case, seen_as}
 use Rattle.genie_arrivals.proofs.Lively.{found_everywhere, live_good, live_state}
 use Rattle.genie_arrivals.proofs.Moving.{IsHad}
 use Rattle.genie_arrivals.proofs.PooledAt.{payload_is, pooled_waits}
-use Rattle.genie_arrivals.proofs.PooledEnd.{Copied, at, last, last_kept, last_outline, last_settled, last_shown, last_sized, mid, payload, region_there, x}
+use Rattle.genie_arrivals.proofs.PooledEnd.{Copied, at, last, last_kept, last_outline, last_settled, last_shown, last_sized, payload, region_there, x}
 use Rattle.genie_arrivals.proofs.PooledShare.{copied_by, goes, some_owner}
 use Rattle.genie_arrivals.proofs.Replying.{early_view, input_finish, outcome, quiet_steps}
 

@@ -1,8 +1,8 @@
 -- What waits of a weak input is copied to the region that it names.
 use Rattle.std.proofs.Common.{◌≡◌, ℕ, ◌+◌, ◌/◌, ◌^◌, ◌≤◌, true, false, refl, sym, ap, subst, ◌∙◌}
-use Rattle.std.specs.Prelude.{Option, Some, None, IfSome, IsSome, find, is_some}
+use Rattle.std.specs.Prelude.{Option, Some, None, IfSome, IsSome, find}
 use Rattle.genie_base.specs.Counts.{span}
-use Rattle.genie_base.specs.Transfers.{class_of, is_strong}
+use Rattle.genie_base.specs.Transfers.{is_strong}
 use Rattle.genie_base.specs.declared.event.Event.TheVariants.{Finish}
 use Rattle.genie_base.specs.declared.reply.Reply.TheVariants as reply
 use Rattle.genie_base.specs.declared.semantics.Class.{Class}
@@ -10,20 +10,18 @@ use Rattle.genie_base.specs.declared.semantics.Class.TheVariants.{Share}
 use Rattle.genie_finish.specs.Copies.{CopiesRange}
 use Rattle.genie_object.specs.declared.objects.Range.{Range}
 use Rattle.genie_object.specs.Costs.{AreBelow}
-use Rattle.genie_region.specs.declared.region.Region.{Region}
 use Rattle.genie_model.specs.Lemmas.Lists.{find_has}
 use Rattle.genie_model.specs.Pending.{is_ready}
 use Rattle.genie_model.specs.Refusing.{refuse}
 use Rattle.genie_model.specs.Tables.{entry}
 use Rattle.genie_kernel.specs.declared.kernel.Kernel.{Kernel}
 use Rattle.genie_kernel.specs.declared.transfer.Transfer.{Transfer}
-use Rattle.genie_kernel.specs.Calls.{has_number, region_number}
+use Rattle.genie_kernel.specs.Calls.{has_number}
 use Rattle.genie_kernel.specs.Good.{IsGood}
 use Rattle.genie_kernel.specs.Regions.{has_id, owned_regions}
 use Rattle.genie_kernel.specs.View.{outline}
 use Rattle.genie_changes.specs.Released.{BuffersShow, ReleasedEnds, ReleasedShows}
 use Rattle.genie_changes.specs.Removing.{GoodRegionsFit}
-use Rattle.genie_changes.specs.Settled.{IsSettled}
 use Rattle.genie_arrivals.specs.EndLaws.{EndLaws}
 use Rattle.genie_arrivals.specs.Live.{ChangeLaws}
 use Rattle.genie_arrivals.specs.Paging.{EndsPaged}
@@ -77,7 +75,7 @@ pub waits_pending : (k : Kernel) (n : ℕ) (class : Class) → IsPooledInput cla
 waits_pending k n class case = if_some (λ (t : Transfer) (is : IsPooledOf class k.devices t). pooled_waits k.devices t is.inward is.pooled) (find (has_number n) k.transfers) case
 
 -- the copy is that of the input which was taken out
-copies_of : (k mid : Kernel) (n : ℕ) (range : Range) (t : Transfer) → CopiesPending n range k mid → find (has_number n) k.transfers ≡ Some t → CopiesRange k.memory mid.memory range.object.0 range.off range.len (offset_of (entry k.config.devices t.dev)) (frames_in (entry k.pools t.dev) t.buffer)
+pub copies_of : (k mid : Kernel) (n : ℕ) (range : Range) (t : Transfer) → CopiesPending n range k mid → find (has_number n) k.transfers ≡ Some t → CopiesRange k.memory mid.memory range.object.0 range.off range.len (offset_of (entry k.config.devices t.dev)) (frames_in (entry k.pools t.dev) t.buffer)
 copies_of k mid n range t c found =
     let both : Some c.transfer ≡ Some t = sym c.found ∙ found in
     let same : c.transfer ≡ t = cc in

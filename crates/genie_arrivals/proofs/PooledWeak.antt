@@ -1,5 +1,5 @@
 -- What waits of a weak input may be copied to its range of the region that it names.
-use Rattle.std.proofs.Common.{◌≡◌, ℕ, ◌+◌, ◌-◌, ◌*◌, ◌/◌, ◌^◌, ◌<◌, ◌≤◌, Bool, true, false, not, cond, List, [], ◌∷◌, refl, sym, ap, subst, arith, rules, ◌∙◌, length, get_or, filter, eq-eqb, eqb-true, inl, inr}
+use Rattle.std.proofs.Common.{◌≡◌, ℕ, ◌+◌, ◌-◌, ◌*◌, ◌/◌, ◌^◌, ◌<◌, ◌≤◌, Bool, true, false, not, cond, List, [], ◌∷◌, refl, sym, ap, subst, arith, rules, ◌∙◌, length, get_or, eq-eqb, inl, inr}
 use Rattle.std.specs.Prelude.{Option, Some, None, find, unwrap_or, ◌==◌, ◌&&◌, if◌then◌else◌}
 use Rattle.genie_base.specs.Counts.{span}
 use Rattle.genie_base.specs.Transfers.{class_of, is_strong}

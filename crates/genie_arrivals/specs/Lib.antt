@@ -14,4 +14,5 @@ pub mod Clearing
 pub mod Paging
 pub mod Waiting
 pub mod Pooled
+pub mod PooledRoom
 pub mod Outboard

@@ -12,6 +12,8 @@ mod live;
 pub mod outboard;
 mod owned;
 pub mod pooled;
+pub mod pooled_copy;
+mod pooled_room;
 mod release;
 mod room;
 pub mod share;

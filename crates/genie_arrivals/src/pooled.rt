@@ -58,8 +58,8 @@ fn copy_waiting(
     }
 }
 
-// Copies what waits of a pending input to a range.
-fn copy_pending(kernel: &mut Kernel, id: TransferId, range: &Range)
+/// Copies what waits of a pending input to a range.
+pub(crate) fn copy_pending(kernel: &mut Kernel, id: TransferId, range: &Range)
     requires { CanCopyPending id.0 range.now kernel.old }
     ensures { CopiesPending id.0 range.now kernel.old kernel.new }
 {
@@ -115,8 +115,8 @@ fn share_into(kernel: &mut Kernel, id: TransferId, range: &Range) -> Reply<'stat
     }
 }
 
-// Whether the process is gone that made the call of a pending transfer.
-fn is_gone(kernel: &Kernel, id: TransferId) -> bool
+/// Whether the process is gone that made the call of a pending transfer.
+pub(crate) fn is_gone(kernel: &Kernel, id: TransferId) -> bool
     requires { IsSome (find (has_number id.0) kernel.now.transfers) }
     ensures yes { result ≡ true → IfSome (find (has_number id.0) kernel.now.transfers) (λ t. t.owner ≡ None) }
     ensures no { result ≡ false → IsOwned kernel.now id.0 }

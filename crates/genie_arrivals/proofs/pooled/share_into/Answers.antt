@@ -1,8 +1,7 @@
-use Rattle.std.proofs.Common.{◌≡◌, refl, sym, ap, subst, ◌∙◌}
-use Rattle.std.specs.Prelude.{None, IfSome, find}
+use Rattle.std.proofs.Common.{refl, sym, ap, subst, ◌∙◌}
+use Rattle.std.specs.Prelude.{IfSome, find}
 use Rattle.genie_base.specs.declared.event.Event.TheVariants.{Finish}
 use Rattle.genie_base.specs.declared.semantics.Class.TheVariants.{Share}
-use Rattle.genie_model.specs.Lemmas.Lists.{find_has}
 use Rattle.genie_model.specs.Refusing.{refuse}
 use Rattle.genie_kernel.specs.declared.kernel.Kernel.{Kernel}
 use Rattle.genie_kernel.specs.Calls.{has_number}

@@ -1,5 +1,5 @@
 use Rattle.std.proofs.Common.{◌≡◌, ◌*◌, ℕ, true, false, refl, sym, ap, subst, arith, ◌∙◌}
-use Rattle.std.specs.Prelude.{None, Some, IfSome, find, is_some}
+use Rattle.std.specs.Prelude.{Some, IfSome, find, is_some}
 use Rattle.genie_base.specs.declared.event.Event.TheVariants.{Finish}
 use Rattle.genie_base.specs.declared.reply.Reply.TheVariants as reply
 use Rattle.genie_base.specs.declared.semantics.Class.TheVariants.{WeakMove}
