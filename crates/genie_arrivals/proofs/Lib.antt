@@ -5,6 +5,15 @@ mod Alone
 mod Lent
 mod Quiet
 mod Buffered
+mod PooledAt
+mod PooledCopy
+mod PooledWeak
+mod PooledEnd
+mod PooledShare
+mod PooledCases
+mod PooledLive
+mod PooledOwn
+mod PooledAim
 mod Blank
 mod WeakPlan
 mod Landing

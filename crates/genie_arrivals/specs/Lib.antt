@@ -13,4 +13,6 @@ pub mod Failing
 pub mod Clearing
 pub mod Paging
 pub mod Waiting
+pub mod Pooled
+pub mod PooledRoom
 pub mod Outboard

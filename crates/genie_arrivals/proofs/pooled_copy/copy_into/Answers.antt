@@ -1,0 +1,50 @@
+use Rattle.std.proofs.Common.{sym, ap, subst, ◌∙◌}
+use Rattle.std.specs.Prelude.{None, IfSome, find}
+use Rattle.genie_base.specs.declared.event.Event.TheVariants.{Finish}
+use Rattle.genie_base.specs.declared.reply.Reply.TheVariants as reply
+use Rattle.genie_base.specs.declared.semantics.Class.TheVariants.{Copy}
+use Rattle.genie_model.specs.Refusing.{refuse}
+use Rattle.genie_kernel.specs.declared.kernel.Kernel.{Kernel}
+use Rattle.genie_kernel.specs.Calls.{has_number}
+use Rattle.genie_kernel.specs.View.{outline}
+use Rattle.genie_arrivals.specs.Waiting.{IsWaiting}
+use Rattle.genie_arrivals.proofs.Closing.{fault_serves}
+use Rattle.genie_arrivals.proofs.Found.{found_some}
+use Rattle.genie_arrivals.proofs.PooledAim.{after_own, can_copy_in, copy_returns, middle_good, moved_serves}
+use Rattle.genie_arrivals.proofs.PooledShare.{waits_pending}
+use Rattle.genie_arrivals.proofs.pooled_copy.copy_into.Goals as goal
+
+pub make_own-requires-clause-pending : goal.make_own-requires-clause-pending
+make_own-requires-clause-pending g c = found_some c.args.kernel.now c.args.id.0 c.requires.accepted
+
+pub returns-in-Err : goal.returns-in-Err
+returns-in-Err g c = fault_serves c.args.kernel.now c.make_own.new.kernel (g.S.Store.view c.args.store.now) (g.S.Store.view c.make_own.new.store) c.args.id.0 c.requires.accepted c.make_own.ensures.moved c.in-Err.ensures.cause.failed
+
+pub copy_pending-requires : goal.copy_pending-requires
+copy_pending-requires g c =
+    let mid : Kernel = c.make_own.new.kernel in
+    let y = after_own c.args.kernel.now mid c.args.id.0 c.args.range.now (g.S.Store.view c.args.store.now) (g.S.Store.view c.make_own.new.store) c.requires.accepted (found_some c.args.kernel.now c.args.id.0 c.requires.accepted) c.requires.case c.requires.target c.make_own.ensures.moved in
+    can_copy_in c.copy_laws.ensures mid c.args.id.0 c.args.range.now c.make_own.ensures.moved.good y.aim y.ready c.in-Ok.ensures.own c.make_own.ensures.meters
+
+pub end_waiting-transfer-requires-clause-good : goal.end_waiting-transfer-requires-clause-good
+end_waiting-transfer-requires-clause-good g c =
+    let mid : Kernel = c.make_own.new.kernel in
+    let y = after_own c.args.kernel.now mid c.args.id.0 c.args.range.now (g.S.Store.view c.args.store.now) (g.S.Store.view c.make_own.new.store) c.requires.accepted (found_some c.args.kernel.now c.args.id.0 c.requires.accepted) c.requires.case c.requires.target c.make_own.ensures.moved in
+    middle_good c.copy_laws.ensures mid c.copy_pending.new.kernel c.args.id.0 c.args.range.now c.make_own.ensures.moved.good y c.copy_pending.ensures
+
+pub end_waiting-transfer-requires-clause-accepted : goal.end_waiting-transfer-requires-clause-accepted
+end_waiting-transfer-requires-clause-accepted g c = ap (λ (z : Kernel). refuse (outline z) (Finish c.args.id.0)) c.copy_pending.ensures.only ∙ ap (λ (z : Kernel). refuse (outline z) (Finish c.args.id.0)) c.make_own.ensures.moved.only ∙ c.requires.accepted
+
+pub end_waiting-transfer-requires-clause-case : goal.end_waiting-transfer-requires-clause-case
+end_waiting-transfer-requires-clause-case g c = subst (λ (z : Kernel). IfSome (find (has_number c.args.id.0) z.transfers) (IsWaiting z.devices)) (sym c.copy_pending.ensures.only) (subst (λ (z : Kernel). IfSome (find (has_number c.args.id.0) z.transfers) (IsWaiting z.devices)) (sym c.make_own.ensures.moved.only) (waits_pending c.args.kernel.now c.args.id.0 Copy c.requires.case))
+
+pub returns : goal.returns
+returns g c =
+    let k : Kernel = c.args.kernel.now in
+    let mid : Kernel = c.make_own.new.kernel in
+    let v = g.S.Store.view c.args.store.now in
+    let w = g.S.Store.view c.make_own.new.store in
+    let t = c.end_waiting-transfer.result in
+    let y = after_own k mid c.args.id.0 c.args.range.now v w c.requires.accepted (found_some k c.args.id.0 c.requires.accepted) c.requires.case c.requires.target c.make_own.ensures.moved in
+    moved_serves c.copy_laws.ensures c.paged_events_are_told.ensures k mid c.end_waiting-transfer.new.kernel v w c.args.id.0 (reply.Input None t.stored t.note) c.requires.accepted c.make_own.ensures.moved c.in-Ok.ensures.cause.kept (g.met.S.Store.paged c.make_own.new.store)
+    (copy_returns c.end_laws.ensures c.copy_laws.ensures c.buffers_show.ensures c.buffers_are_released.ensures.ends c.buffers_are_released.ensures.shows mid c.copy_pending.new.kernel c.end_waiting-transfer.new.kernel c.args.id.0 t c.args.range.now c.make_own.ensures.moved.good y c.copy_pending.ensures c.end_waiting-transfer.ensures)
