@@ -5,3 +5,6 @@ pub mod Room
 pub mod Lands
 pub mod Went
 pub mod Good
+pub mod Steps
+pub mod Ends
+pub mod Meeting
