@@ -29,7 +29,7 @@ use Rattle.genie_receiving.specs.Lemmas.Matched.{after_moving}
 use Rattle.genie_pooling.specs.Delivering.{Delivers, DeliversTo, ready_with}
 use Rattle.genie_pooling.specs.Pooled.{EndsStep}
 
-set_twice : {X : Type 0} (xs : List X) (d : ℕ) (x y : X) → set (set xs d x) d y ≡ set xs d y
+pub set_twice : {X : Type 0} (xs : List X) (d : ℕ) (x y : X) → set (set xs d x) d y ≡ set xs d y
 set_twice [] d x y = refl
 set_twice (z ∷ xs) zero x y = refl
 set_twice (z ∷ xs) (suc d) x y = ap (λ l. z ∷ l) (set_twice xs d x y)

@@ -8,3 +8,4 @@ pub mod Good
 pub mod Steps
 pub mod Ends
 pub mod Meeting
+pub mod Received
