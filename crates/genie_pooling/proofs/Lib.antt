@@ -9,3 +9,4 @@ pub mod Steps
 pub mod Ends
 pub mod Meeting
 pub mod Received
+pub mod Rest
