@@ -1,30 +1,24 @@
 -- What a step leaves that has moved payload bytes into a buffer of a pool: the kernel and the reply.
-use Rattle.std.proofs.Common.{◌≡◌, ℕ, ◌+◌, ◌*◌, zero, suc, Bool, true, false, List, [], ◌∷◌, refl, sym, ap, subst, ◌∙◌, length, set, get_or}
-use Rattle.std.specs.Prelude.{Option, Some, None, find, position, ◌==◌, if◌then◌else◌}
+use Rattle.std.proofs.Common.{◌≡◌, ℕ, ◌+◌, zero, suc, Bool, true, false, List, [], ◌∷◌, refl, sym, ap, subst, ◌∙◌, set}
+use Rattle.std.specs.Prelude.{Option, Some, None, find, position, if◌then◌else◌}
 use Rattle.genie_base.specs.Posted.{first}
 use Rattle.genie_base.specs.declared.reply.Reply.{Reply}
 use Rattle.genie_base.specs.declared.reply.Reply.TheVariants as reply
 use Rattle.genie_demux.specs.Posted.{address, number_of as posted_number, without}
-use Rattle.genie_demux.specs.declared.input.Input.{Input}
 use Rattle.genie_device.specs.Device.{DeviceView}
 use Rattle.genie_device.specs.declared.present.Present.{Present}
-use Rattle.genie_device.specs.declared.steps.BodyEnd.{BodyEnd}
-use Rattle.genie_device.specs.declared.steps.BodyEnd.TheVariants.{More, Whole, Truncated, Faulted}
 use Rattle.genie_input.specs.Pools.{PoolState, is_filling, set_buffer}
 use Rattle.genie_input.specs.declared.pool.BufferState.TheVariants.{Free, Held}
 use Rattle.genie_object.specs.declared.memory.Memory.{Memory}
-use Rattle.genie_wire.specs.declared.header.Header.{Header}
 use Rattle.genie_model.specs.Tables.{entry}
 use Rattle.genie_model.specs.Lemmas.Lists.{entry_same}
 use Rattle.genie_kernel.specs.declared.kernel.Kernel.{Kernel}
 use Rattle.genie_kernel.specs.declared.transfer.Transfer.{Transfer}
 use Rattle.genie_kernel.specs.Calls.{has_number}
 use Rattle.genie_changes.specs.Working.{worked}
-use Rattle.genie_receiving.specs.Course.{course_of, is_faulted}
 use Rattle.genie_receiving.specs.declared.course.Course.{Course}
 use Rattle.genie_receiving.specs.declared.course.Course.TheVariants.{GoesOn, Ends, IsTruncated}
 use Rattle.genie_receiving.specs.declared.payload.Moved.{Moved}
-use Rattle.genie_receiving.specs.Landing.{reply_to}
 use Rattle.genie_receiving.specs.Lemmas.Matched.{after_moving}
 use Rattle.genie_pooling.specs.Delivering.{Delivers, DeliversTo, ready_with}
 use Rattle.genie_pooling.specs.Pooled.{EndsStep}
@@ -69,7 +63,7 @@ module _ (k : Kernel) (d b : ℕ) (v1 : DeviceView) (q : PoolState) (g : Present
       let place : position is_filling x.pool.buffers ≡ Some b = ap (λ (z : PoolState). position is_filling z.buffers) pool_is ∙ fills in
       let buffer_is : x.buffer ≡ b = (let same : Some x.buffer ≡ Some b = sym x.filling ∙ place in cc) in
       by met meets (subst (λ (n : ℕ). DeliversTo (posted_number (first address d g.header.port g.header.flow k.posted)) d g.header (g.moved + count) truncated moved q n (during course) new r) buffer_is
-          (subst (λ (z : PoolState). DeliversTo (posted_number (first address d g.header.port g.header.flow k.posted)) d g.header (g.moved + count) truncated moved z x.buffer (during course) new r) pool_is x.delivers))
+      (subst (λ (z : PoolState). DeliversTo (posted_number (first address d g.header.port g.header.flow k.posted)) d g.header (g.moved + count) truncated moved z x.buffer (during course) new r) pool_is x.delivers))
     where
       by : (o : Option (ℕ × Transfer)) → IsMetBy o → DeliversTo (posted_number (first address d g.header.port g.header.flow k.posted)) d g.header (g.moved + count) truncated moved q b (during course) new r → (new ≡ after_end truncated course o) × (r ≡ end_reply moved o)
       by None e y =

@@ -1,12 +1,10 @@
 -- A kernel stays good when a pooled device has received.
-use Rattle.std.proofs.Common.{◌≡◌, ◌≢◌, ℕ, ◌+◌, ◌<◌, ◌≤◌, Bool, true, false, not, List, [], refl, sym, ap, subst, arith, rules, ◌∙◌, ⊎_elim, length, set, get_or, eqb-true, eq-eqb}
-use Rattle.std.specs.Prelude.{Option, Some, None, IfSome, All, count_by, find, is_some, min, sum_by, ◌==◌, ◌&&◌, if◌then◌else◌}
-use Rattle.std.proofs.lemmas.Bool.{ne_eqb}
+use Rattle.std.proofs.Common.{◌≡◌, ◌≢◌, ℕ, ◌+◌, ◌<◌, ◌≤◌, Bool, true, false, not, List, refl, sym, ap, subst, arith, ◌∙◌, ⊎_elim, length, set, get_or, eqb-true, eq-eqb}
+use Rattle.std.specs.Prelude.{Option, Some, None, IfSome, All, is_some, min, sum_by, ◌==◌, ◌&&◌, if◌then◌else◌}
 use Rattle.std.proofs.lemmas.List.{length-set, get_or-set_same, get_or-set_other}
 use Rattle.genie_base.specs.Configs.{most}
 use Rattle.genie_base.specs.Lemmas.Places.{same_or}
 use Rattle.genie_base.specs.declared.config.DeviceConfig.{DeviceConfig}
-use Rattle.genie_base.specs.declared.semantics.Direction.TheVariants.{Inward}
 use Rattle.genie_demux.specs.Posted.{without}
 use Rattle.genie_device.specs.Device.{DeviceView}
 use Rattle.genie_device.specs.declared.present.Present.{Present}
@@ -16,10 +14,10 @@ use Rattle.genie_input.specs.declared.pool.BufferState.TheVariants.{Free, Held}
 use Rattle.genie_orderly.specs.Orderly.{IsOrderly}
 use Rattle.genie_plan.specs.Loans as kind
 use Rattle.genie_plan.specs.Plans.{input_frames, times}
-use Rattle.genie_model.specs.Pending.{is_early, is_inward, is_just, is_queued, is_ready}
+use Rattle.genie_model.specs.Pending.{is_early, is_inward, is_queued}
 use Rattle.genie_model.specs.Tables.{entry}
 use Rattle.genie_model.specs.Lemmas.Lists.{entry_same}
-use Rattle.genie_model.specs.declared.phase.Phase.TheVariants.{Posted, Ready}
+use Rattle.genie_model.specs.declared.phase.Phase.TheVariants.{Posted}
 use Rattle.genie_kernel.specs.declared.kernel.Kernel.{Kernel}
 use Rattle.genie_kernel.specs.declared.transfer.Transfer.{Transfer}
 use Rattle.genie_kernel.specs.Calls.{first_waiting, has_arrived, has_number, receiver}

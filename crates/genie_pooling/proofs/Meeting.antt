@@ -1,6 +1,6 @@
 -- The input that a datagram of a pooled device meets, and none that it moves into.
-use Rattle.std.proofs.Common.{◌≡◌, ℕ, Bool, true, false, List, [], refl, sym, ap, subst, arith, rules, ◌∙◌, eqb-true}
-use Rattle.std.specs.Prelude.{Option, Some, None, IfSome, IsSome, find, ◌==◌, ◌&&◌}
+use Rattle.std.proofs.Common.{◌≡◌, ℕ, true, List, [], refl, sym, ap, subst, arith, rules, ◌∙◌, eqb-true}
+use Rattle.std.specs.Prelude.{Option, Some, None, IfSome, find, ◌==◌, ◌&&◌}
 use Rattle.std.specs.Option.{option_map}
 use Rattle.genie_base.specs.Posted.{first, meets}
 use Rattle.genie_base.specs.declared.config.Kind.{Kind}
@@ -18,8 +18,8 @@ use Rattle.genie_model.specs.Lemmas.Lists.{all_has, find_has, has_map}
 use Rattle.genie_model.specs.declared.phase.Phase.TheVariants.{Posted}
 use Rattle.genie_kernel.specs.declared.kernel.Kernel.{Kernel}
 use Rattle.genie_kernel.specs.declared.transfer.Transfer.{Transfer}
-use Rattle.genie_kernel.specs.Calls.{first_waiting, has_number, number_of, receiver, receives_from}
-use Rattle.genie_kernel.specs.Devices.{datagram_view, device_view}
+use Rattle.genie_kernel.specs.Calls.{first_waiting, has_number, receiver, receives_from}
+use Rattle.genie_kernel.specs.Devices.{device_view}
 use Rattle.genie_kernel.specs.Good.{IsGood}
 use Rattle.genie_kernel.specs.Matching.{posted_as}
 use Rattle.genie_kernel.specs.Transfers.{transfer_view}
@@ -43,16 +43,18 @@ met_at laws k d n port flow g met =
     let both : (is_posted t.phase && meets d port flow (address (posted_as t))) ≡ true = has.1 in
     let is : is_posted t.phase ≡ true = grind (arith, rules, both) in
     let posted : t.phase ≡ Posted = phase_posted t.phase is in
-    let dev : t.dev ≡ d = eqb-true t.dev d (grind (arith, rules, both)) in
-    (t, record {
-      input = record {
-        found = subst (λ m. find (has_number m) k.transfers ≡ Some t) found.2 (found_numbered k.transfers t (laws.rise k g).order has.0);
-        dev = dev;
-        inward = posted_inward t.dir t.phase posted (phased k t g has.0);
-        unbuffered = no_buffer k t g has.0 (ap is_ready posted);
-      };
-      posted = posted;
-    })
+    let dev : t.dev ≡ d = eqb-true t.dev d (grind (arith, rules, both)) in (
+      t,
+      record {
+        input = record {
+          found = subst (λ m. find (has_number m) k.transfers ≡ Some t) found.2 (found_numbered k.transfers t (laws.rise k g).order has.0);
+          dev = dev;
+          inward = posted_inward t.dir t.phase posted (phased k t g has.0);
+          unbuffered = no_buffer k t g has.0 (ap is_ready posted);
+        };
+        posted = posted;
+      },
+    )
 
 -- what it meets, or nothing
 pub record Encounter (k : Kernel) (d : ℕ) (o : Option ℕ) : Type 0 where

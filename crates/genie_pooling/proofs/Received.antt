@@ -1,13 +1,11 @@
 -- A step that has moved payload bytes into a buffer of a pool has received them.
 use Rattle.std.proofs.Common.{◌≡◌, ◌≢◌, ℕ, ◌+◌, ◌-◌, ◌*◌, ◌<◌, ◌≤◌, Bool, true, false, List, [], ◌++◌, refl, sym, ap, subst, arith, ◌∙◌, ⊎_elim, length, take, drop, set, get_or, append_assoc}
-use Rattle.std.specs.Prelude.{Option, Some, None, IfSome, find, is_some, position, replicate, ◌==◌, if◌then◌else◌}
+use Rattle.std.specs.Prelude.{Option, Some, None, IfSome, is_some, position, replicate}
 use Rattle.std.specs.Option.{option_map}
 use Rattle.std.specs.Io.KnownBytes.{Consumes, IsAtEnd}
-use Rattle.std.specs.List.{list_any}
 use Rattle.std.proofs.lemmas.List.{get_or-set_same, get_or-set_other, length-replicate, length-set}
 use Rattle.std.proofs.lemmas.List.Folds.{list_any_at}
 use Rattle.std.proofs.lemmas.List.Quantifiers.{position-Some}
-use Rattle.genie_base.specs.Bytes.{overlaid}
 use Rattle.genie_base.specs.Events.{mark_of}
 use Rattle.genie_base.specs.Lemmas.Places.{same_or}
 use Rattle.genie_base.specs.Posted.{first}
@@ -24,7 +22,7 @@ use Rattle.genie_device.specs.Receiving.{BodyCause}
 use Rattle.genie_frame.specs.declared.frame.InLoan.{InLoan}
 use Rattle.genie_host.specs.Host.{HostView, OnlyHandle}
 use Rattle.genie_host.specs.OnlyHandle.{only_trans}
-use Rattle.genie_input.specs.Pools.{IsPool, PoolState, is_filling, is_held, set_buffer}
+use Rattle.genie_input.specs.Pools.{PoolState, is_filling, is_held, set_buffer}
 use Rattle.genie_input.specs.declared.pool.BufferState.TheVariants.{Free, Held}
 use Rattle.genie_object.specs.declared.memory.Memory.{Memory}
 use Rattle.genie_object.specs.Sound.{IsSound}
@@ -40,7 +38,7 @@ use Rattle.genie_kernel.specs.declared.transfer.Transfer.{Transfer}
 use Rattle.genie_kernel.specs.Calls.{has_number, receiver}
 use Rattle.genie_kernel.specs.Good.{IsGood}
 use Rattle.genie_kernel.specs.Kept.{Kept}
-use Rattle.genie_kernel.specs.Matching.{IsStored, has_filling, is_filling_pool}
+use Rattle.genie_kernel.specs.Matching.{IsStored, has_filling}
 use Rattle.genie_kernel.specs.Steps.{DeviceCause, Steps, bytes_over}
 use Rattle.genie_kernel.specs.Transfers.{pool_frames}
 use Rattle.genie_kernel.specs.View.{Bytes, outline, state_of}
@@ -50,8 +48,7 @@ use Rattle.genie_receiving.specs.declared.course.Course.TheVariants.{GoesOn, End
 use Rattle.genie_receiving.specs.Devices.{KeepsPayload, with_rest}
 use Rattle.genie_receiving.specs.Laws.{ReceiveLaws}
 use Rattle.genie_receiving.specs.Payload.{MovesPayload}
-use Rattle.genie_receiving.specs.Receiving.{MayBeLeft, Receives, input_of, with_landed}
-use Rattle.genie_receiving.specs.Lemmas.Accepted.{may_receive}
+use Rattle.genie_receiving.specs.Receiving.{MayBeLeft, Receives, with_landed}
 use Rattle.genie_receiving.specs.Lemmas.Bytes.{append_none}
 use Rattle.genie_receiving.specs.Lemmas.Gathered.{handle_is}
 use Rattle.genie_receiving.specs.Lemmas.Good.{landed_good}
@@ -66,7 +63,7 @@ use Rattle.genie_pooling.specs.Pooled.{EndsStep, FillsPayload}
 use Rattle.genie_pooling.proofs.Ends.{IsMetBy, done, done_reply, ended_so, set_twice}
 use Rattle.genie_pooling.proofs.Good.{IsPoolNow, delivered_good, pooled_good}
 use Rattle.genie_pooling.proofs.Lands.{lands_filled, zeros_filled}
-use Rattle.genie_pooling.proofs.Meeting.{Encounter, IsMetAt, encounter, none_moved}
+use Rattle.genie_pooling.proofs.Meeting.{IsMetAt, encounter, none_moved}
 use Rattle.genie_pooling.proofs.Pools.{Fills, over_none, over_pool, unheld_filling}
 use Rattle.genie_pooling.proofs.Room.{IsPooled}
 use Rattle.genie_pooling.proofs.Shows.{ShowsFilled}

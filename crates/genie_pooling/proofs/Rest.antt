@@ -1,6 +1,6 @@
 -- A step that goes on with a datagram in a buffer of a pool.
-use Rattle.std.proofs.Common.{◌≡◌, ℕ, ◌+◌, ◌-◌, ◌*◌, ◌^◌, ◌<◌, ◌≤◌, Bool, true, false, List, [], refl, sym, ap, subst, arith, ◌∙◌, set}
-use Rattle.std.specs.Prelude.{Option, Some, None, IfSome, IsSome, find, is_some, position}
+use Rattle.std.proofs.Common.{◌≡◌, ℕ, ◌+◌, ◌-◌, ◌*◌, ◌^◌, ◌<◌, ◌≤◌, true, false, List, [], refl, sym, ap, subst, arith, ◌∙◌, set}
+use Rattle.std.specs.Prelude.{Option, Some, None, IfSome, IsSome, is_some, position}
 use Rattle.std.specs.Option.{option_map}
 use Rattle.std.specs.Io.KnownBytes.{Consumes}
 use Rattle.genie_base.specs.Posted.{first}
@@ -19,7 +19,6 @@ use Rattle.genie_model.specs.Refusing.{refuse}
 use Rattle.genie_model.specs.Tables.{entry}
 use Rattle.genie_kernel.specs.declared.kernel.Kernel.{Kernel}
 use Rattle.genie_kernel.specs.declared.transfer.Transfer.{Transfer}
-use Rattle.genie_kernel.specs.Calls.{has_number}
 use Rattle.genie_kernel.specs.Good.{IsGood}
 use Rattle.genie_kernel.specs.Handles.{HasHandles}
 use Rattle.genie_kernel.specs.Matching.{has_filling, is_filling_pool}

@@ -1,11 +1,10 @@
 -- A receive step that gathers payload bytes in a buffer of a pool.
-use Rattle.std.proofs.Common.{◌≡◌, ℕ, ◌+◌, ◌-◌, ◌*◌, ◌<◌, ◌≤◌, ◌⊎◌, zero, suc, Bool, true, false, List, [], ◌++◌, refl, sym, ap, subst, arith, rules, ◌∙◌, length, take, set, inl, inr, eqb-true}
-use Rattle.std.specs.Prelude.{Option, Some, None, IfSome, nat_lt, position, ◌==◌, ◌&&◌, if◌then◌else◌}
+use Rattle.std.proofs.Common.{◌≡◌, ℕ, ◌+◌, ◌-◌, ◌<◌, ◌≤◌, ◌⊎◌, zero, suc, Bool, true, false, List, [], ◌++◌, refl, sym, ap, subst, arith, rules, ◌∙◌, length, take, set, inl, inr, eqb-true}
+use Rattle.std.specs.Prelude.{Option, Some, None, nat_lt, position, ◌==◌, ◌&&◌, if◌then◌else◌}
 use Rattle.std.specs.Option.{option_map}
 use Rattle.genie_base.specs.Configs.{most}
 use Rattle.genie_base.specs.Events.{mark_of}
 use Rattle.genie_base.specs.Headers.{is_valid_header, payload_taken}
-use Rattle.genie_base.specs.declared.config.DeviceConfig.{DeviceConfig}
 use Rattle.genie_base.specs.declared.event.Event.TheVariants.{Recv}
 use Rattle.genie_base.specs.declared.reply.Mark.TheVariants as mark
 use Rattle.genie_base.specs.declared.reply.Reply.{Reply}
@@ -44,13 +43,13 @@ use Rattle.genie_receiving.specs.Lemmas.Bytes.{append_none, none_taken, payload_
 use Rattle.genie_receiving.specs.Lemmas.Flat.{Gathers, HasPresent, may_fail_gathered, may_fail_within, payload_moved, recv_gathers, recv_within}
 use Rattle.genie_receiving.specs.Lemmas.Gathered.{IsFree, gathers, seen_before, set_same}
 use Rattle.genie_receiving.specs.Lemmas.Within.{some_left}
-use Rattle.genie_receiving.specs.Lemmas.Marking.{failed_steps, plain_steps, rest_same}
+use Rattle.genie_receiving.specs.Lemmas.Marking.{failed_steps, plain_steps}
 use Rattle.genie_receiving.specs.Lemmas.Matched.{EndsPayload, flat_device, taken_all}
 use Rattle.genie_receiving.specs.Lemmas.Within.{inside_payload}
 use Rattle.genie_pooling.proofs.Pools.{Fills}
 use Rattle.genie_pooling.proofs.Room.{IsPooled}
 use Rattle.genie_pooling.proofs.Shows.{ShowsFilled, filled_state}
-use Rattle.genie_pooling.proofs.Went.{Meets, all, final, final_reply, gathering, had, went_on}
+use Rattle.genie_pooling.proofs.Went.{Meets, all, final, final_reply, gathering, went_on}
 
 moved_some : (n : ℕ) → (n == 0) ≡ false → 0 < n
 moved_some zero e = absurd (cc)

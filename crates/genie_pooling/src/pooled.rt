@@ -3,10 +3,8 @@ ghost use Rattle.std.specs.Prelude.{◌≡◌, ◌+◌, ◌*◌, ◌^◌, ◌<�
 ghost use Rattle.genie_base.specs.Posted.{first};
 ghost use Rattle.genie_base.specs.declared.event.Event.TheVariants as event;
 ghost use Rattle.genie_demux.specs.Posted.{address, number_of as posted_number};
-
 ghost use Rattle.genie_model.specs.Refusing.{refuse};
 ghost use Rattle.genie_model.specs.Tables.{entry};
-
 ghost use Rattle.genie_kernel.specs.Good.{IsGood};
 ghost use Rattle.genie_kernel.specs.Handles.{HasHandles};
 ghost use Rattle.genie_kernel.specs.View.{outline};
