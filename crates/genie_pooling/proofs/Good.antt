@@ -1,13 +1,10 @@
 -- A kernel stays good when a pooled device has received.
-use Rattle.std.proofs.Common.{◌≡◌, ◌≢◌, ℕ, ◌+◌, ◌<◌, ◌≤◌, Bool, true, false, not, List, [], refl, sym, ap, subst, arith, rules, ◌∙◌, ⊎_elim, length, set, get_or, eqb-true, eq-eqb}
-use Rattle.std.specs.Prelude.{Option, Some, None, IfSome, All, count_by, find, is_some, min, sum_by, ◌==◌, ◌&&◌, if◌then◌else◌}
-use Rattle.std.proofs.lemmas.Bool.{ne_eqb}
+use Rattle.std.proofs.Common.{◌≡◌, ◌≢◌, ℕ, ◌+◌, ◌<◌, ◌≤◌, Bool, true, false, not, List, refl, sym, ap, subst, arith, ◌∙◌, ⊎_elim, length, set, get_or, eqb-true, eq-eqb}
+use Rattle.std.specs.Prelude.{Option, Some, None, IfSome, All, is_some, min, sum_by, ◌==◌, ◌&&◌, if◌then◌else◌}
 use Rattle.std.proofs.lemmas.List.{length-set, get_or-set_same, get_or-set_other}
 use Rattle.genie_base.specs.Configs.{most}
 use Rattle.genie_base.specs.Lemmas.Places.{same_or}
-use Rattle.genie_base.specs.Records.{header_len}
 use Rattle.genie_base.specs.declared.config.DeviceConfig.{DeviceConfig}
-use Rattle.genie_base.specs.declared.semantics.Direction.TheVariants.{Inward}
 use Rattle.genie_demux.specs.Posted.{without}
 use Rattle.genie_device.specs.Device.{DeviceView}
 use Rattle.genie_device.specs.declared.present.Present.{Present}
@@ -17,10 +14,10 @@ use Rattle.genie_input.specs.declared.pool.BufferState.TheVariants.{Free, Held}
 use Rattle.genie_orderly.specs.Orderly.{IsOrderly}
 use Rattle.genie_plan.specs.Loans as kind
 use Rattle.genie_plan.specs.Plans.{input_frames, times}
-use Rattle.genie_model.specs.Pending.{is_early, is_inward, is_just, is_outboard, is_queued, is_ready}
+use Rattle.genie_model.specs.Pending.{is_early, is_inward, is_queued}
 use Rattle.genie_model.specs.Tables.{entry}
 use Rattle.genie_model.specs.Lemmas.Lists.{entry_same}
-use Rattle.genie_model.specs.declared.phase.Phase.TheVariants.{Posted, Ready}
+use Rattle.genie_model.specs.declared.phase.Phase.TheVariants.{Posted}
 use Rattle.genie_kernel.specs.declared.kernel.Kernel.{Kernel}
 use Rattle.genie_kernel.specs.declared.transfer.Transfer.{Transfer}
 use Rattle.genie_kernel.specs.Calls.{first_waiting, has_arrived, has_number, receiver}
@@ -35,7 +32,7 @@ use Rattle.genie_kernel.specs.View.{outline}
 use Rattle.genie_changes.specs.Working.{GetsBuffer, OthersStay, Work, at_work, worked}
 use Rattle.genie_receiving.specs.Devices.{KeepsPayload}
 use Rattle.genie_receiving.specs.Laws.{ReceiveLaws}
-use Rattle.genie_receiving.specs.Lemmas.Good.{early_same, fits_same, rooms_same, waits_same}
+use Rattle.genie_receiving.specs.Lemmas.Good.{early_same, fits_same, rooms_same, sending_on, waits_same}
 use Rattle.genie_receiving.specs.Lemmas.Payloads.{IsInputOf}
 use Rattle.genie_receiving.specs.Lemmas.Views.{so_at}
 use Rattle.genie_pooling.specs.Delivering.{ready_with}
@@ -47,14 +44,6 @@ pub record IsPoolNow (p r : PoolState) : Type 0 where
   pub loans : r.loans ≡ p.loans
   pub count : length r.buffers ≡ length p.buffers
   pub pool : IsPool r.buffers r.loans
-
-sending_on : (v w : DeviceView) (t : Option Transfer) → KeepsPayload v w → IsSending v t → IsSending w t
-sending_on v w None k h = record { unstaged = k.staged ∙ h.unstaged; unsent = k.sent ∙ h.unsent }
-sending_on v w (Some t) k h = record {
-  unsent = subst (λ n. n < header_len t.flow + t.len) (sym k.sent) h.unsent;
-  staged = subst (λ (l : List ℕ). length l ≤ t.len) (sym k.staged) h.staged;
-  memory = λ e. k.staged ∙ h.memory (sym (ap (λ (c : DeviceConfig). is_outboard c.kind) k.config) ∙ e);
-}
 
 waits_only : (o : Option DeviceView) (p r : PoolState) (b : ℕ) → is_held (get_or r.buffers b Free) ≡ is_held (get_or p.buffers b Free) → has_waiting o (Some r) b ≡ has_waiting o (Some p) b
 waits_only None p r b e = refl

@@ -1,5 +1,5 @@
 -- What lands in the buffer that a pool fills shows in the datagram of its device alone; and so it is of zeros.
-use Rattle.std.proofs.Common.{◌≡◌, ◌≢◌, ℕ, ◌+◌, ◌-◌, ◌*◌, ◌<◌, ◌≤◌, ◌⊎◌, zero, suc, Bool, true, false, cond, List, [], ◌∷◌, ◌++◌, refl, sym, ap, subst, arith, ◌∙◌, ⊎_elim, length, map, take, drop, get_or, inl, inr, eq-eqb}
+use Rattle.std.proofs.Common.{◌≡◌, ◌≢◌, ℕ, ◌+◌, ◌-◌, ◌*◌, ◌<◌, ◌≤◌, ◌⊎◌, zero, suc, true, false, cond, List, [], ◌∷◌, ◌++◌, refl, sym, ap, subst, arith, ◌∙◌, ⊎_elim, length, map, take, drop, get_or, inl, inr, eq-eqb}
 use Rattle.std.specs.Prelude.{Option, Some, None, filter, flat_map, min, ◌==◌, if◌then◌else◌}
 use Rattle.std.specs.List.{list_any}
 use Rattle.std.proofs.lemmas.List.{length-append, length-drop, length-replicate}
@@ -7,16 +7,14 @@ use Rattle.genie_base.specs.Bytes.{overlaid, part}
 use Rattle.genie_base.specs.Lemmas.Places.{any_default}
 use Rattle.genie_device.specs.Device.{DeviceView}
 use Rattle.genie_frame.specs.declared.frame.Owner.TheVariants as owner
-use Rattle.genie_frame.specs.declared.frame.Owner.{Owner}
 use Rattle.genie_frame.specs.FrameTable.{bytes_at, counts_at, owner_at}
 use Rattle.genie_input.specs.Pools.{PoolState}
 use Rattle.genie_object.specs.Lemmas.Lookup.{in_range}
 use Rattle.genie_object.specs.declared.memory.Memory.{Memory}
 use Rattle.genie_object.specs.Memory.{is_kept, seen}
-use Rattle.genie_orderly.specs.Lemmas.AcceptedEvents.{page_some}
 use Rattle.genie_plan.specs.Landings.{Lands}
 use Rattle.genie_plan.specs.Plans.{input_frames, times}
-use Rattle.genie_plan.specs.Lemmas.Landings.{entry_kept, frame_kept, in_frames, page_in, times_some}
+use Rattle.genie_plan.specs.Lemmas.Landings.{entry_kept, frame_kept, in_frames, page_in}
 use Rattle.genie_plan.specs.Lemmas.Ranges.{times_at}
 use Rattle.genie_model.specs.Tables.{entry}
 use Rattle.genie_model.specs.Lemmas.Lists.{Has, has_any}
@@ -29,7 +27,6 @@ use Rattle.genie_kernel.specs.Loans.{bytes_in_frames, first_of, frames_of, has_f
 use Rattle.genie_kernel.specs.Owners.{holders}
 use Rattle.genie_kernel.specs.Steps.{bytes_over}
 use Rattle.genie_kernel.specs.Transfers.{buffer_bytes, pool_frames}
-use Rattle.genie_kernel.specs.View.{Bytes}
 use Rattle.genie_receiving.specs.Lemmas.Marking.{zeros_with}
 use Rattle.genie_receiving.specs.Lemmas.Shown.{frames_same}
 use Rattle.genie_receiving.specs.Lemmas.Zeros.{pages_zero, zeros, zeros_dropped, zeros_more, zeros_taken}

@@ -5,3 +5,8 @@ pub mod Room
 pub mod Lands
 pub mod Went
 pub mod Good
+pub mod Steps
+pub mod Ends
+pub mod Meeting
+pub mod Received
+pub mod Rest

@@ -1,5 +1,5 @@
 -- The loans of the buffer that a pool fills.
-use Rattle.std.proofs.Common.{◌≡◌, ℕ, zero, suc, List, [], ◌∷◌, refl, sym, ap, subst, get_or}
+use Rattle.std.proofs.Common.{◌≡◌, ℕ, zero, suc, List, [], ◌∷◌, refl, sym, subst, get_or}
 use Rattle.std.specs.Prelude.{Option, Some, None, IsSome, position}
 use Rattle.genie_frame.specs.declared.frame.InLoan.{InLoan}
 use Rattle.genie_frame.specs.FrameTable.{FrameTable}

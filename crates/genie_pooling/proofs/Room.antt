@@ -1,6 +1,6 @@
 -- The buffers of a pooled device have room for its datagrams.
-use Rattle.std.proofs.Common.{◌≡◌, ◌≢◌, ℕ, ◌+◌, ◌-◌, ◌*◌, ◌^◌, ◌<◌, ◌≤◌, zero, suc, Bool, true, false, List, [], ◌∷◌, refl, sym, ap, subst, arith, rules, ◌∙◌, ⊎_elim, length, map, take, drop, get_or, inl, inr}
-use Rattle.std.specs.Prelude.{Option, Some, None, All, count_by, sum_by, ◌==◌}
+use Rattle.std.proofs.Common.{◌≡◌, ◌≢◌, ℕ, ◌+◌, ◌-◌, ◌*◌, ◌<◌, ◌≤◌, zero, suc, true, false, List, [], ◌∷◌, refl, sym, ap, subst, arith, ◌∙◌, ⊎_elim, length, map, take, drop, get_or}
+use Rattle.std.specs.Prelude.{Option, Some, None, All, sum_by, ◌==◌}
 use Rattle.std.specs.Option.{option_map}
 use Rattle.std.proofs.lemmas.Bool.{cases_lt}
 use Rattle.std.proofs.lemmas.List.{length-drop, length-map, length-take}
@@ -18,11 +18,10 @@ use Rattle.genie_input.specs.Pools.{IsPool, PoolState}
 use Rattle.genie_object.specs.Lemmas.Works.{page_most}
 use Rattle.genie_orderly.specs.Lemmas.AcceptedEvents.{page_some}
 use Rattle.genie_plan.specs.Plans.{AreApart, CanLand, input_frames, times}
-use Rattle.genie_plan.specs.Lemmas.Landings.{times_some}
 use Rattle.genie_plan.specs.Lemmas.Ranges.{times_at}
 use Rattle.genie_model.specs.Tables.{entry}
 use Rattle.genie_kernel.specs.declared.kernel.Kernel.{Kernel}
-use Rattle.genie_kernel.specs.Counted.{lent_of, loans_on, pool_on}
+use Rattle.genie_kernel.specs.Counted.{lent_of, pool_on}
 use Rattle.genie_kernel.specs.Good.{IsGood}
 use Rattle.genie_kernel.specs.Sizes.{IsEquipped, is_pooled}
 use Rattle.genie_kernel.specs.Transfers.{pool_frames}

@@ -1,5 +1,5 @@
 -- Bytes come into the buffer that a pool fills: what the state shows of them.
-use Rattle.std.proofs.Common.{◌≡◌, ◌≢◌, ℕ, ◌+◌, ◌*◌, ◌<◌, ◌≤◌, zero, suc, Bool, true, false, List, [], ◌∷◌, ◌++◌, refl, sym, ap, ap₂, subst, arith, rules, ◌∙◌, ⊎_elim, length, map, take, drop, set, get_or, inl, inr, eqb-true, eq-eqb}
+use Rattle.std.proofs.Common.{◌≡◌, ◌≢◌, ℕ, ◌+◌, ◌*◌, ◌<◌, ◌≤◌, zero, suc, Bool, true, false, List, [], ◌∷◌, ◌++◌, refl, sym, ap, ap₂, subst, arith, ◌∙◌, ⊎_elim, length, map, take, drop, set, get_or, inl, inr, eq-eqb}
 use Rattle.std.specs.Prelude.{Option, Some, None, count_by, find, slice_index, ◌==◌, ◌&&◌, ◌-◌, if◌then◌else◌}
 use Rattle.std.specs.Option.{option_map}
 use Rattle.std.proofs.lemmas.Bool.{ne_eqb}
@@ -94,10 +94,10 @@ module _ (k : Kernel) (g : IsGood k) (d b x : ℕ) (v w : DeviceView) (p q r : P
   same_buffer None j i held = refl
   same_buffer (Some y) j i held = ⊎_elim
       (λ (e : j ≡ d).
-          let is : entry k.pools j ≡ Some p = ap (entry k.pools) e ∙ pooled in
-          let mine = held e in
-          subst (λ o. buffer_bytes t (Some y) o i ≡ buffer_bytes s (Some y) o i) (sym is)
-          (h.buffers y i (held_there p.buffers i mine) (λ z. let clash : true ≡ false = sym mine ∙ ap (λ a. is_held (get_or p.buffers a Free)) z ∙ unheld_filling p q b f in absurd (cc))))
+      let is : entry k.pools j ≡ Some p = ap (entry k.pools) e ∙ pooled in
+      let mine = held e in
+      subst (λ o. buffer_bytes t (Some y) o i ≡ buffer_bytes s (Some y) o i) (sym is)
+      (h.buffers y i (held_there p.buffers i mine) (λ z. let clash : true ≡ false = sym mine ∙ ap (λ a. is_held (get_or p.buffers a Free)) z ∙ unheld_filling p q b f in absurd (cc))))
       (λ (n : j ≢ d). h.others j y i n)
       (same_or j d)
 

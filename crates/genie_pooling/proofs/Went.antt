@@ -1,17 +1,15 @@
 -- A datagram that a device gathers in a buffer of its pool: what the flat machine makes of a step, and the kernel.
-use Rattle.std.proofs.Common.{◌≡◌, ◌≢◌, ℕ, ◌+◌, ◌-◌, ◌<◌, ◌≤◌, zero, suc, Bool, true, false, List, [], ◌∷◌, ◌++◌, refl, sym, ap, subst, arith, ◌∙◌, ⊎_elim, length, take, set, inl, inr, eqb-true, eq-eqb}
-use Rattle.std.specs.Prelude.{Option, Some, None, find, min, position, ◌==◌, if◌then◌else◌}
-use Rattle.std.specs.Option.{option_map}
+use Rattle.std.proofs.Common.{◌≡◌, ◌≢◌, ℕ, ◌+◌, ◌-◌, ◌<◌, ◌≤◌, zero, suc, Bool, true, false, List, [], ◌∷◌, ◌++◌, refl, sym, ap, arith, ◌∙◌, ⊎_elim, length, take, set, eqb-true, eq-eqb}
+use Rattle.std.specs.Prelude.{Option, Some, None, min, position, ◌==◌, if◌then◌else◌}
 use Rattle.std.proofs.lemmas.Bool.{ne_eqb, eqb-false}
 use Rattle.std.proofs.lemmas.List.{length-append, length-take}
 use Rattle.genie_base.specs.Lemmas.Places.{same_or}
 use Rattle.genie_base.specs.Posted.{first}
 use Rattle.genie_base.specs.declared.config.DeviceConfig.{DeviceConfig}
-use Rattle.genie_base.specs.declared.config.Kind.TheVariants.{Pooled}
 use Rattle.genie_base.specs.declared.reply.Reply.{Reply}
 use Rattle.genie_base.specs.declared.reply.Reply.TheVariants as reply
 use Rattle.genie_base.specs.declared.semantics.Direction.TheVariants.{Inward}
-use Rattle.genie_demux.specs.Posted.{address, number_of as posted_number, without}
+use Rattle.genie_demux.specs.Posted.{address, number_of as posted_number}
 use Rattle.genie_device.specs.Device.{DeviceView}
 use Rattle.genie_device.specs.declared.present.Present.{Present}
 use Rattle.genie_device.specs.declared.steps.BodyEnd.{BodyEnd}
@@ -19,18 +17,17 @@ use Rattle.genie_device.specs.declared.steps.BodyEnd.TheVariants.{More, Whole, T
 use Rattle.genie_input.specs.Pools.{PoolState, is_filling, set_buffer}
 use Rattle.genie_input.specs.declared.pool.BufferState.TheVariants.{Free, Held}
 use Rattle.genie_wire.specs.declared.header.Header.{Header}
-use Rattle.genie_model.specs.Pending.{first_posted, is_queued}
-use Rattle.genie_model.specs.Receiving.{set_device, change_transfer, complete, deliver, gathered, go_on, note_of}
-use Rattle.genie_model.specs.Space.{Outcome}
+use Rattle.genie_model.specs.Pending.{is_queued}
+use Rattle.genie_model.specs.Receiving.{set_device, change_transfer, complete, deliver, gathered, go_on}
 use Rattle.genie_model.specs.State as flat
 use Rattle.genie_model.specs.Tables.{entry}
-use Rattle.genie_model.specs.Lemmas.Lists.{entry_same, find_has}
+use Rattle.genie_model.specs.Lemmas.Lists.{entry_same}
 use Rattle.genie_model.specs.declared.fate.Fate.TheVariants.{Gathering}
-use Rattle.genie_model.specs.declared.phase.Phase.TheVariants.{Posted, Ready}
+use Rattle.genie_model.specs.declared.phase.Phase.TheVariants.{Posted}
 use Rattle.genie_kernel.specs.declared.kernel.Kernel.{Kernel}
 use Rattle.genie_kernel.specs.declared.transfer.Transfer.{Transfer}
 use Rattle.genie_kernel.specs.Calls.{first_waiting, has_number, receiver}
-use Rattle.genie_kernel.specs.Devices.{datagram_view, device_view, fate_of, gathered_in, matched_or_skipped}
+use Rattle.genie_kernel.specs.Devices.{device_view, fate_of, gathered_in, matched_or_skipped}
 use Rattle.genie_kernel.specs.Good.{IsGood}
 use Rattle.genie_kernel.specs.Transfers.{buffer_bytes, transfer_view}
 use Rattle.genie_kernel.specs.View.{Bytes, state_of}
@@ -145,9 +142,9 @@ module _ (laws : ReceiveLaws) (k : Kernel) (good : IsGood k) (b c : Bytes) (d h 
       ∙ (λ i. record (tv (at_work x (record t { dir = Inward }))) { payload = held i; stored = sym long i })
       ∙ ap (λ (u : Transfer). gathered truncated g.header.len all (tv u)) plain in
       let each : (j : ℕ) → seen_device c.seen.kept_bytes cc3.rests c.sents k3.pools (receiver (worked (has_number n) x k.transfers)) j (entry k3.devices j) ≡ seen_device c.seen.kept_bytes cc3.rests c.sents k3.pools (receiver k.transfers) j (entry k3.devices j) = λ j. ⊎_elim
-          (λ (e : j ≡ d). absent_same c.seen.kept_bytes cc3.rests c.sents k3.pools (receiver k.transfers) (receiver (worked (has_number n) x k.transfers)) j (entry k3.devices j) gone (ap (entry k3.devices) e ∙ entry_same k.devices d v (Some gone) is.there) refl)
-          (λ (apart : j ≢ d). receiver_same c.seen.kept_bytes cc3.rests c.sents k3.pools (receiver k.transfers) (receiver (worked (has_number n) x k.transfers)) j (entry k3.devices j) (ap matched_or_skipped (receiver_elsewhere (has_number n) x t k.transfers j input.found (λ e. apart (sym e ∙ input.dev)))))
-          (same_or j d) in
+      (λ (e : j ≡ d). absent_same c.seen.kept_bytes cc3.rests c.sents k3.pools (receiver k.transfers) (receiver (worked (has_number n) x k.transfers)) j (entry k3.devices j) gone (ap (entry k3.devices) e ∙ entry_same k.devices d v (Some gone) is.there) refl)
+      (λ (apart : j ≢ d). receiver_same c.seen.kept_bytes cc3.rests c.sents k3.pools (receiver k.transfers) (receiver (worked (has_number n) x k.transfers)) j (entry k3.devices j) (ap matched_or_skipped (receiver_elsewhere (has_number n) x t k.transfers j input.found (λ e. apart (sym e ∙ input.dev)))))
+      (same_or j d) in
       ap (λ z. change_transfer z n (gathered truncated g.header.len all)) (over_state sent r f.loans)
       ∙ sym (worked_state laws.orphans laws.transfers k3 cc3 n x t (gathered truncated g.header.len all) input.found (ap is_queued posted) refl here each)
 

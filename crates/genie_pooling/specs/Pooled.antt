@@ -1,7 +1,5 @@
 -- The receive step of a pooled device.
-use Rattle.std.specs.Prelude.{◌≡◌, ℕ, ◌+◌, ◌*◌, ◌==◌, ◌&&◌, Bool, true, false, List, length, count_by, Option, None, Some, slice_set}
-use Rattle.genie_base.specs.declared.config.Config.{Config}
-use Rattle.genie_base.specs.declared.config.DeviceConfig.{DeviceConfig}
+use Rattle.std.specs.Prelude.{◌≡◌, ℕ, ◌+◌, ◌*◌, ◌==◌, ◌&&◌, Bool, true, false, List, length, count_by, Option, None, Some}
 use Rattle.genie_base.specs.declared.config.Kind.{Kind}
 use Rattle.genie_base.specs.declared.config.Kind.TheVariants.{Early, Pooled, Outboard}
 use Rattle.genie_base.specs.declared.reply.Reply.{Reply}

@@ -96,7 +96,7 @@ none_received k d v g there absent = by (receiver k.transfers d) refl
         let is : entry (outline k).devices d ≡ Some (device_view (no_bytes k.config.page).seen.kept_bytes [] [] (entry k.pools d) (receiver k.transfers d) v) = entry_view (no_bytes k.config.page).seen.kept_bytes (λ j. []) (λ j. []) k.pools (receiver k.transfers) k.devices d ∙ ap (option_map (device_view (no_bytes k.config.page).seen.kept_bytes [] [] (entry k.pools d) (receiver k.transfers d))) there in
         absurd (no_input (no_bytes k.config.page).seen.kept_bytes [] [] (entry k.pools d) (receiver k.transfers d) v u.id.0 absent (sym (ap receives_for (ap (entry (outline k).devices) at ∙ is)) ∙ receives))
 
-sending_on : (v w : DeviceView) (t : Option Transfer) → KeepsPayload v w → IsSending v t → IsSending w t
+pub sending_on : (v w : DeviceView) (t : Option Transfer) → KeepsPayload v w → IsSending v t → IsSending w t
 sending_on v w None k h = record { unstaged = k.staged ∙ h.unstaged; unsent = k.sent ∙ h.unsent }
 sending_on v w (Some t) k h = record {
   unsent = subst (λ n. n < header_len t.flow + t.len) (sym k.sent) h.unsent;

@@ -36,7 +36,7 @@ phase_moving Posted e = absurd (cc)
 phase_moving Moving e = refl
 phase_moving Ready e = absurd (cc)
 
-phase_posted : (p : Phase) → is_posted p ≡ true → p ≡ Posted
+pub phase_posted : (p : Phase) → is_posted p ≡ true → p ≡ Posted
 phase_posted Queued e = absurd (cc)
 phase_posted Posted e = refl
 phase_posted Moving e = absurd (cc)
@@ -47,11 +47,11 @@ moving_inward : (d : Direction) (p : Phase) → p ≡ Moving → IsTrue (has_pha
 moving_inward Outward p e h = let clash : false ≡ true = subst (λ q. IsTrue (has_phase Outward q)) e h in absurd (cc)
 moving_inward Inward p e h = refl
 
-posted_inward : (d : Direction) (p : Phase) → p ≡ Posted → IsTrue (has_phase d p) → d ≡ Inward
+pub posted_inward : (d : Direction) (p : Phase) → p ≡ Posted → IsTrue (has_phase d p) → d ≡ Inward
 posted_inward Outward p e h = let clash : false ≡ true = subst (λ q. IsTrue (has_phase Outward q)) e h in absurd (cc)
 posted_inward Inward p e h = refl
 
-phased : (k : Kernel) (t : Transfer) → IsGood k → Has t k.transfers → IsTrue (has_phase t.dir t.phase)
+pub phased : (k : Kernel) (t : Transfer) → IsGood k → Has t k.transfers → IsTrue (has_phase t.dir t.phase)
 phased k t g i =
     let tv : Transfer → flat.Transfer = transfer_view (no_bytes k.config.page).seen.kept_bytes k.devices k.pools (first_waiting k.transfers) in
     let h : IsTransfer (tv t) = all_has IsTransfer (outline k).transfers g.orderly.calls (tv t) (has_map tv t k.transfers i) in h.phase
@@ -68,13 +68,13 @@ unready d t e = ap (λ b. is_inward t.dir && b && (t.dev == d)) e ∙ by (is_inw
     by false = refl
 
 -- one that isn't ready has no buffer
-no_buffer : (k : Kernel) (t : Transfer) → IsGood k → Has t k.transfers → is_ready t.phase ≡ false → t.buffer ≡ None
+pub no_buffer : (k : Kernel) (t : Transfer) → IsGood k → Has t k.transfers → is_ready t.phase ≡ false → t.buffer ≡ None
 no_buffer k t g i e =
     let h : is_some t.buffer ≡ (has_arrived t.dev t && not (is_early_device (entry k.devices t.dev))) = all_has (λ (u : Transfer). is_some u.buffer ≡ (has_arrived u.dev u && not (is_early_device (entry k.devices u.dev)))) k.transfers g.arrived.inputs t i in
     no_some t.buffer (h ∙ ap (λ b. b && not (is_early_device (entry k.devices t.dev))) (unready t.dev t e))
 
 -- a transfer is found by its number
-found_numbered : (ts : List Transfer) (t : Transfer) → AllPairs (λ (x y : Transfer). x.id.0 < y.id.0) ts → Has t ts → find (has_number (number_of t)) ts ≡ Some t
+pub found_numbered : (ts : List Transfer) (t : Transfer) → AllPairs (λ (x y : Transfer). x.id.0 < y.id.0) ts → Has t ts → find (has_number (number_of t)) ts ≡ Some t
 found_numbered [] t pairs i = absurd i
 found_numbered (x ∷ ts) t pairs (inl e) = ap (λ b. cond b (Some x) (find (has_number (number_of t)) ts)) (eq-eqb x.id.0 t.id.0 (ap number_of e)) ∙ ap Some e
 found_numbered (x ∷ ts) t pairs (inr i) =

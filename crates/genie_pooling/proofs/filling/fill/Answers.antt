@@ -1,5 +1,4 @@
-use Rattle.std.proofs.Common.{refl, sym, ap, subst}
-use Rattle.genie_device.specs.Device.{DeviceView}
+use Rattle.std.proofs.Common.{refl, subst}
 use Rattle.genie_frame.specs.declared.frame.InLoan.{InLoan}
 use Rattle.std.proofs.Common.{List}
 use Rattle.genie_model.specs.Tables.{entry}
