@@ -6,9 +6,7 @@ use Rattle.genie_base.specs.declared.event.Event.TheVariants as event
 use Rattle.genie_base.specs.declared.numbers.ObjectId.{ObjectId}
 use Rattle.genie_frame.specs.FrameTable.{FrameTable}
 use Rattle.genie_frame.specs.Frames.{more_written, stored}
-use Rattle.genie_store.specs.StoreView.{StoreView}
 use Rattle.genie_hiding.specs.Hidden.{objects_of}
-use Rattle.genie_hiding.specs.Rooms.{MakesRoom}
 use Rattle.genie_object.specs.declared.memory.Memory.{Memory}
 use Rattle.genie_object.specs.Costs.{Spends, CostsNoMore, work, is_untouched, read_work, write_work}
 use Rattle.genie_object.specs.Lemmas.Works.{writes_less}
@@ -22,10 +20,6 @@ use Rattle.genie_copying.specs.Lemmas.Counting.{bytes_first, bytes_second, span_
 use Rattle.genie_copying.specs.Lemmas.Costing.{fixed_copied, untouched_fewer, fixed_fewer}
 use Rattle.genie_access.specs.Reached.{LeadsTo}
 use Rattle.genie_access.proofs.Led.{led_outside}
-
--- room that is made moves no byte, and leaves pages of the kinds that they were
-pub room_costs : (hidden : List ℕ) (old new : Memory) (v w : StoreView) → MakesRoom hidden old new v w → NoDearer hidden old new
-room_costs hidden old new v w r = record { page = r.keeps.page; reads = r.reads; writes = r.writes }
 
 reads_less : (old new : Memory) (o i : ℕ) → CostsNoMore old new → new.frames.page ≡ old.frames.page → read_work new o i ≤ read_work old o i
 reads_less old new o i x e = elim (is_untouched old o i) as (λ b. is_untouched old o i ≡ b → read_work new o i ≤ read_work old o i) [

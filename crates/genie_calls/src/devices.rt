@@ -7,6 +7,7 @@ ghost use Rattle.genie_kernel.specs.Good.{IsGood};
 ghost use Rattle.genie_kernel.specs.Handles.{HasHandles};
 ghost use Rattle.genie_kernel.specs.Planned.{is_early_device};
 ghost use Rattle.genie_kernel.specs.View.{outline};
+ghost use Rattle.genie_kernel.specs.Transfers.{is_outboard_device};
 ghost use Rattle.genie_calls.specs.Serving.{ServedByHost};
 
 use genie_base::Reply;
@@ -38,4 +39,20 @@ pub(crate) fn recv_early<H: Host>(
     ensures { ServedByHost kernel.old (event.Recv dev len) kernel.new (H.view host.old) (H.view host.new) result }
 {
     genie_receiving::early::recv_early(kernel, host, dev, len)
+}
+
+// An outboard device receives.
+pub(crate) fn recv_outboard<H: Host>(
+    kernel: &mut Kernel,
+    host: &mut H,
+    dev: u32,
+    len: u32,
+) -> Reply<'static>
+    requires good { IsGood kernel.old }
+    requires handles { HasHandles kernel.old.config (H.view host.old) }
+    requires accepted { refuse (outline kernel.old) (event.Recv dev len) ≡ None }
+    requires outboard { is_outboard_device (entry kernel.old.devices dev) ≡ true }
+    ensures { ServedByHost kernel.old (event.Recv dev len) kernel.new (H.view host.old) (H.view host.new) result }
+{
+    genie_gathering::outboard::recv_outboard(kernel, host, dev, len)
 }

@@ -7,4 +7,6 @@ mod devices;
 mod endings;
 mod laws;
 mod spaces;
+#[cfg(test)]
+mod tests;
 mod transfers;

@@ -2,8 +2,8 @@
 //! first posted input that it meets has the buffer.
 #![tactic(auto)]
 
-pub mod deliver;
-pub mod gather;
-pub mod laws;
+mod deliver;
+mod gather;
+mod laws;
 pub mod outboard;
 pub mod payload;

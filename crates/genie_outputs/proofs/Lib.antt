@@ -10,3 +10,4 @@ pub mod Lent
 pub mod Shared
 pub mod Given
 pub mod Gone
+pub mod Rows

@@ -1,5 +1,5 @@
 -- What an output call leaves, and what it answers.
-use Rattle.std.specs.Prelude.{◌≡◌, ◌<◌, ◌≤◌, ◌-◌, ◌+◌, ◌^◌, None, count_by}
+use Rattle.std.specs.Prelude.{◌≡◌, ◌<◌, ◌≤◌, ◌-◌, ◌+◌, ◌^◌, None, Some, count_by, if◌then◌else◌}
 use Rattle.genie_base.specs.Counts.{span}
 use Rattle.genie_base.specs.Events.{mark_of}
 use Rattle.genie_base.specs.declared.reply.Reply.{Reply}
@@ -16,6 +16,9 @@ use Rattle.genie_kernel.specs.Good.{IsGood}
 use Rattle.genie_kernel.specs.Kept.{Kept}
 use Rattle.genie_kernel.specs.Steps.{StepsTold, StoreCause}
 use Rattle.genie_kernel.specs.View.{view, outline}
+use Rattle.genie_copying.specs.Bounds.{output_bound, stores_nothing}
+use Rattle.genie_copying.specs.Ranges.{pages_at}
+use Rattle.genie_copying.specs.Spending.{CopiesAtMost}
 use Rattle.genie_outputs.specs.declared.call.Call.{Call}
 use Rattle.genie_outputs.specs.Calls.{Reaches, event_of, place_in, range_of}
 
@@ -40,3 +43,7 @@ pub record IsReady (k : Kernel) (c : Call) (r : Region) (range : Range) (v : Sto
   pub reached : Reaches k c r
   pub range_is : range ≡ range_of k.config.page c r
   pub free : span k.config.page (place_in k.config.page c r) c.len ≤ count_by is_free k.memory.frames.owners
+
+-- no more is copied than the table's row for this call and reply has, over the pages of the range
+abbrev pub KeepsToRow : Kernel → Call → Range → Kernel → Reply → Type 0
+KeepsToRow old c range new r = CopiesAtMost (if stores_nothing r then 0 else output_bound old c.sem c.len (Some (pages_at old.config.page range.object.0 range.off range.len))) old.memory new.memory

@@ -12,7 +12,8 @@ ghost use Rattle.genie_kernel.specs.Good.{IsGood};
 ghost use Rattle.genie_kernel.specs.Kept.{Kept};
 ghost use Rattle.genie_kernel.specs.Steps.{StepsTold, StoreCause};
 ghost use Rattle.genie_kernel.specs.View.{view, outline};
-ghost use Rattle.genie_outputs.specs.Answering.{IsReady, IsAnswered};
+ghost use Rattle.genie_copying.specs.Bounds.{KeepsToBound};
+ghost use Rattle.genie_outputs.specs.Answering.{IsReady, IsAnswered, KeepsToRow};
 
 use crate::begin::add_output;
 use crate::call::Call;
@@ -36,7 +37,8 @@ fn begin_hidden<S: Store>(
 ) -> Reply<'static>
     requires ready { IsReady kernel.old call.now region.now range.now (S.view store.old) }
     requires class { class_of call.now.sem ≡ Move }
-    ensures { IsAnswered kernel.old call.now kernel.new (S.view store.old) (S.view store.new) result }
+    ensures answered { IsAnswered kernel.old call.now kernel.new (S.view store.old) (S.view store.new) result }
+    ensures copies { KeepsToRow kernel.old call.now range.now kernel.new result }
 {
     output_laws();
     removal_laws();
@@ -88,6 +90,7 @@ pub fn out_hidden<S: Store>(
     ensures config { kernel.new.config ≡ kernel.old.config }
     ensures step { (host : HostView) → StepsTold (view kernel.old host (S.view store.old)) (event.Output pid sem dev port flow addr len) (view kernel.new host (S.view store.new)) result }
     ensures cause { StoreCause (mark_of result) (S.view store.old).faults (S.view store.new).faults }
+    ensures copying { KeepsToBound kernel.old (event.Output pid sem dev port flow addr len) kernel.new result }
 {
     output_laws();
     let call = Call {

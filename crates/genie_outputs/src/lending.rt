@@ -3,6 +3,7 @@ ghost use Rattle.std.specs.Prelude.{◌≡◌, ◌≢◌, ℕ, ◌<◌, ◌+◌,
 ghost use Rattle.genie_base.specs.Causes.{HasCause};
 ghost use Rattle.genie_base.specs.Transfers.{class_of, is_strong, is_emulated};
 ghost use Rattle.genie_frame.specs.FrameTable.{counts_at};
+ghost use Rattle.genie_object.specs.Costs.{writes_work};
 ghost use Rattle.genie_object.specs.Memory.{seen_with};
 ghost use Rattle.genie_object.specs.Objects.{object_at, entry_at};
 ghost use Rattle.genie_object.specs.Sound.{IsSound, IsSized};
@@ -12,7 +13,9 @@ ghost use Rattle.genie_plan.specs.Loans.{output_loans};
 ghost use Rattle.genie_plan.specs.Loans as kind;
 ghost use Rattle.genie_plan.specs.Plans.{CanSend, output_frames, times};
 ghost use Rattle.genie_tcow.specs.Lending.{HasLent, IsTakenBack};
-ghost use Rattle.genie_tcow.specs.Ranges.{CanPrepare, IsPlanOf, SendsRange, first_page, is_of_range};
+ghost use Rattle.genie_tcow.specs.Costs.{sends_work};
+ghost use Rattle.genie_tcow.specs.Ranges.{CanPrepare, IsPlanOf, SendsRange, first_page, is_of_range, pages_of};
+ghost use Rattle.genie_copying.specs.Spending.{CopiesAtMost};
 ghost use Rattle.genie_outputs.specs.Answering.{IsReady};
 ghost use Rattle.genie_outputs.specs.Sharing.{IsShared, WiredUnless};
 ghost use Rattle.genie_changes.specs.Making.{IsMoved};
@@ -48,6 +51,7 @@ pub(crate) fn lend_strong<S: Store>(
     ensures bytes { IfOk result (λ plan. SendsRange memory.old memory.new (S.view store.old) range.now plan.loans.items plan.first plan.len) }
     ensures lent { IfOk result (λ plan. HasLent kind.Strong id.0 (is_of_range memory.old.frames.page range.now) (output_loans plan.loans.items) memory.old memory.new (S.view store.old) (S.view store.new)) }
     ensures failed { OnErr result (IsTakenBack (is_of_range memory.old.frames.page range.now) memory.old memory.new (S.view store.old) (S.view store.new)) }
+    ensures copies { CopiesAtMost (sends_work memory.old range.now.object.0 (first_page memory.old.frames.page range.now) (pages_of memory.old.frames.page range.now)) memory.old memory.new }
     ensures shut { writable ≡ false → (i : ℕ) → (entry_at memory.new.objects range.now.object.0 i).writable ≡ false }
 {
     match prepare_strong(memory, store, id, range) {
@@ -81,6 +85,7 @@ fn lend_weak<S: Store>(
     ensures frames { IfOk result (λ plan. AreOfEntries memory.new range.now.object.0 (first_page memory.old.frames.page range.now) (output_frames plan.loans.items)) }
     ensures lent { IfOk result (λ plan. HasLent kind.Weak 0 (is_of_range memory.old.frames.page range.now) (output_loans plan.loans.items) memory.old memory.new (S.view store.old) (S.view store.new)) }
     ensures failed { OnErr result (IsTakenBack (is_of_range memory.old.frames.page range.now) memory.old memory.new (S.view store.old) (S.view store.new)) }
+    ensures copies { CopiesAtMost (writes_work memory.old range.now.object.0 (first_page memory.old.frames.page range.now) (pages_of memory.old.frames.page range.now)) memory.old memory.new }
     ensures shut { writable ≡ false → (i : ℕ) → (entry_at memory.new.objects range.now.object.0 i).writable ≡ false }
 {
     match prepare_weak(memory, store, range) {
@@ -121,6 +126,7 @@ pub(crate) fn share<S: Store>(
     ensures shared { IfOk result (λ plan. IsShared kernel.old kernel.new.memory call.now region.now plan (S.view store.old) (S.view store.new)) }
     ensures failed { OnErr result (IsMoved kernel.old kernel.new (S.view store.old) (S.view store.new)) }
     ensures cause { HasCause (S.view store.old).faults (S.view store.new).faults result }
+    ensures copies { CopiesAtMost (writes_work kernel.old.memory range.now.object.0 (first_page kernel.old.memory.frames.page range.now) (pages_of kernel.old.memory.frames.page range.now)) kernel.old.memory kernel.new.memory }
 {
     output_laws();
     match lend_weak(&mut kernel.memory, store, range, region.writable) {

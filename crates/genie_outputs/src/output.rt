@@ -10,6 +10,7 @@ ghost use Rattle.genie_kernel.specs.Good.{IsGood};
 ghost use Rattle.genie_kernel.specs.Kept.{Kept};
 ghost use Rattle.genie_kernel.specs.Steps.{StepsTold, StoreCause};
 ghost use Rattle.genie_kernel.specs.View.{view, outline};
+ghost use Rattle.genie_copying.specs.Bounds.{KeepsToBound};
 
 use crate::call::is_plain;
 use crate::hiding::out_hidden;
@@ -50,6 +51,10 @@ pub fn out<S: Store>(
     ensures config { kernel.new.config ≡ kernel.old.config }
     ensures step { (host : HostView) → StepsTold (view kernel.old host (S.view store.old)) (event.Output pid sem dev port flow addr len) (view kernel.new host (S.view store.new)) result }
     ensures cause { StoreCause (mark_of result) (S.view store.old).faults (S.view store.new).faults }
+
+    // A call that is a copy moves its bytes, and zeroes untouched pages. Every other one moves none but those of the pages that
+    // it can't lend in place.
+    ensures copying { KeepsToBound kernel.old (event.Output pid sem dev port flow addr len) kernel.new result }
 {
     match sem.class() {
         Class::Copy => {

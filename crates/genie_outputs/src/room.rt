@@ -2,6 +2,7 @@
 ghost use Rattle.std.specs.Prelude.{◌≡◌, ◌≤◌, ◌<◌, ◌+◌, ◌-◌, ◌^◌, None, count_by, OnOk, IfOk};
 ghost use Rattle.genie_base.specs.Causes.{HasCause};
 ghost use Rattle.genie_frame.specs.FrameTable.{is_free};
+ghost use Rattle.genie_hiding.specs.Hidden.{objects_of};
 ghost use Rattle.genie_hiding.specs.Rooms.{available};
 ghost use Rattle.genie_object.specs.Costs.{AreBelow};
 ghost use Rattle.genie_object.specs.Sound.{IsSized};
@@ -9,6 +10,7 @@ ghost use Rattle.genie_model.specs.Refusing.{refuse};
 ghost use Rattle.genie_kernel.specs.Good.{IsGood};
 ghost use Rattle.genie_kernel.specs.View.{outline};
 ghost use Rattle.genie_changes.specs.Making.{IsMoved};
+ghost use Rattle.genie_copying.specs.Spending.{CopiesAtMost, NoDearer};
 ghost use Rattle.genie_outputs.specs.Answering.{IsReady};
 ghost use Rattle.genie_outputs.specs.Calls.{event_of};
 
@@ -34,6 +36,8 @@ fn make_frames<S: Store>(kernel: &mut Kernel, store: &mut S, frames: u32) -> Res
     ensures free { OnOk result (frames ≤ count_by is_free kernel.new.memory.frames.owners) }
     ensures meters { AreBelow (2 ^ 63 + 2 ^ 20) kernel.new.memory.frames.meters }
     ensures cause { HasCause (S.view store.old).faults (S.view store.new).faults result }
+    ensures copies { CopiesAtMost 0 kernel.old.memory kernel.new.memory }
+    ensures costs { NoDearer (objects_of kernel.old.hidden) kernel.old.memory kernel.new.memory }
 {
     places_suffice();
     memory_moves();
@@ -63,6 +67,8 @@ pub(crate) fn make_ready<S: Store>(
     ensures moved { IsMoved kernel.old kernel.new (S.view store.old) (S.view store.new) }
     ensures ready { IfOk result (λ x. IsReady kernel.new call.now x.0 x.1 (S.view store.new)) }
     ensures cause { HasCause (S.view store.old).faults (S.view store.new).faults result }
+    ensures copies { CopiesAtMost 0 kernel.old.memory kernel.new.memory }
+    ensures costs { NoDearer (objects_of kernel.old.hidden) kernel.old.memory kernel.new.memory }
 {
     output_laws();
     let region = region_reached(kernel, call);

@@ -13,7 +13,7 @@ use Rattle.genie_pooling.specs.Buffers.{HasFilling}
 use Rattle.genie_pooling.specs.Filling.{MayLandIn}
 
 some_place : (o : Option ℕ) → IsSome o → (b : ℕ) × (o ≡ Some b)
-some_place None h = absurd h
+some_place None h = absurd (cc)
 some_place (Some b) h = (b, refl)
 
 -- which one it is
@@ -28,12 +28,12 @@ ready_in t first len o p loans is h may same =
 
 -- what is at a place of a table
 here : {X : Type 0} (xs : List (Option X)) (d : ℕ) (x : Option X) (y : X) → get_or xs d x ≡ Some y → (entry xs d ≡ None → ⊥) → entry xs d ≡ Some y
-here [] d x y e no = absurd (no refl)
-here (z ∷ zs) zero x y e no = e
-here (z ∷ zs) (suc d) x y e no = here zs d x y e no
+here [] d x y e n = absurd (n refl)
+here (z ∷ zs) zero x y e n = e
+here (z ∷ zs) (suc d) x y e n = here zs d x y e n
 
 pub pool_here : (xs : List (Option PoolState)) (d : ℕ) (x : Option PoolState) (p : PoolState) → get_or xs d x ≡ Some p → HasFilling (entry xs d) → entry xs d ≡ Some p
-pool_here xs d x p e h = here xs d x p e (λ n. subst HasFilling n h)
+pool_here xs d x p e h = here xs d x p e (λ (n : entry xs d ≡ None). subst HasFilling n h)
 
 pub device_here : (xs : List (Option DeviceView)) (d : ℕ) (x : Option DeviceView) (v : DeviceView) (host : HostView) → get_or xs d x ≡ Some v → MayMove (entry xs d) host → entry xs d ≡ Some v
-device_here xs d x v host e h = here xs d x v e (λ n. subst (λ o. MayMove o host) n h)
+device_here xs d x v host e h = here xs d x v e (λ (n : entry xs d ≡ None). subst (λ o. MayMove o host) n h)

@@ -11,7 +11,7 @@ use Rattle.genie_object.specs.Memory.{frame_in, frame_of}
 use Rattle.genie_object.specs.Objects.{entry_at}
 use Rattle.genie_object.specs.Pages.{page_at}
 use Rattle.genie_frame.specs.FrameTable.{counts_at}
-use Rattle.genie_copying.specs.Kinds.{is_fixed}
+use Rattle.genie_copying.specs.Kinds.{is_unlendable, is_fixed}
 use Rattle.genie_copying.specs.Ranges.{Pages, count_in}
 use Rattle.genie_copying.specs.Spending.{NoDearer}
 use Rattle.genie_copying.specs.Lemmas.Counting.{bytes_fewer, count_fewer}
@@ -38,4 +38,9 @@ untouched_fewer hidden old new r x h =
 pub fixed_fewer : (hidden : List ℕ) (old new : Memory) (r : Pages) → NoDearer hidden old new → is_among r.object hidden ≡ false → new.frames.page * count_in is_fixed new r ≤ old.frames.page * count_in is_fixed old r
 fixed_fewer hidden old new r x h =
     let fewer = bytes_fewer old.frames.page _ _ (count_fewer (is_fixed new r.object) (is_fixed old r.object) r.first r.count (λ i e. fixed_copied new r.object i ∙ x.writes r.object i h (sym (fixed_copied old r.object i) ∙ e))) in
+    rw x.page fewer
+
+pub unlendable_fewer : (hidden : List ℕ) (old new : Memory) (r : Pages) → NoDearer hidden old new → is_among r.object hidden ≡ false → new.frames.page * count_in is_unlendable new r ≤ old.frames.page * count_in is_unlendable old r
+unlendable_fewer hidden old new r x h =
+    let fewer = bytes_fewer old.frames.page _ _ (count_fewer (is_unlendable new r.object) (is_unlendable old r.object) r.first r.count (λ i. x.sends r.object i h)) in
     rw x.page fewer

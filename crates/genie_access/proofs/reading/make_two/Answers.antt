@@ -1,4 +1,6 @@
 use Rattle.genie_access.proofs.Alike.{room_seen}
+use Rattle.genie_copying.specs.Lemmas.Making.{room_no_dearer}
+use Rattle.genie_hiding.specs.Hidden.{objects_of}
 use Rattle.genie_access.proofs.reading.make_two.Goals as goal
 
 pub returns-in-Ok-clause-seen : goal.returns-in-Ok-clause-seen
@@ -6,3 +8,9 @@ returns-in-Ok-clause-seen g c = room_seen c.args.kernel.now c.make_room.new.memo
 
 pub returns-in-Err-clause-seen : goal.returns-in-Err-clause-seen
 returns-in-Err-clause-seen g c = room_seen c.args.kernel.now c.make_room.new.memory (g.S.Store.view c.args.store.now) (g.S.Store.view c.make_room.new.store) c.requires.good c.requires.sized c.make_room.ensures.room
+
+pub returns-in-Ok-clause-costs : goal.returns-in-Ok-clause-costs
+returns-in-Ok-clause-costs g c = room_no_dearer (objects_of c.args.kernel.now.hidden) c.args.kernel.now.memory c.make_room.new.memory (g.S.Store.view c.args.store.now) (g.S.Store.view c.make_room.new.store) c.requires.good.sound c.make_room.ensures.room
+
+pub returns-in-Err-clause-costs : goal.returns-in-Err-clause-costs
+returns-in-Err-clause-costs g c = room_no_dearer (objects_of c.args.kernel.now.hidden) c.args.kernel.now.memory c.make_room.new.memory (g.S.Store.view c.args.store.now) (g.S.Store.view c.make_room.new.store) c.requires.good.sound c.make_room.ensures.room

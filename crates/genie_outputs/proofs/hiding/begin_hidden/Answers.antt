@@ -8,6 +8,9 @@ use Rattle.genie_outputs.proofs.Given.{found_region}
 use Rattle.genie_outputs.proofs.Gone.{hidden_out, moved_settled}
 use Rattle.genie_outputs.proofs.Lent.{object_there, unlent_out}
 use Rattle.genie_outputs.proofs.Reached.{can_prepare, may_output}
+use Rattle.genie_frame.specs.FrameTable.{FrameTable}
+use Rattle.std.proofs.Common.{ap, ◌∙◌}
+use Rattle.genie_outputs.proofs.Rows.{meters_left, given_row}
 use Rattle.genie_outputs.proofs.hiding.begin_hidden.Goals as goal
 
 pub lend_strong-requires-clause-range : goal.lend_strong-requires-clause-range
@@ -28,8 +31,14 @@ hide_region-requires-clause-alive g c = subst (λ (k : Kernel). is_alive c.args.
 pub hide_region-requires-clause-there : goal.hide_region-requires-clause-there
 hide_region-requires-clause-there g c = subst (λ (k : Kernel). region_of c.args.region.now.id (regions_of c.args.call.now.pid k.spaces) ≡ Some c.args.region.now) (sym c.add_output.ensures) (found_region c.args.kernel.now c.args.call.now c.args.region.now c.requires.ready.good c.requires.ready.reached)
 
-pub returns-in-Ok : goal.returns-in-Ok
-returns-in-Ok g c = hidden_out c.output_laws.ensures c.removal_laws.ensures c.args.kernel.now c.lend_strong.new.memory c.args.call.now c.args.region.now c.args.range.now c.in-Ok.plan (g.S.Store.view c.args.store.now) (g.S.Store.view c.lend_strong.new.store) c.requires.ready c.requires.class c.in-Ok.ensures.lent c.in-Ok.ensures.plan c.lend_strong.ensures.shut c.hiding_laws.ensures c.add_output.new.kernel c.hide_region.new.kernel c.add_output.ensures c.hide_region.ensures (g.met.S.Store.paged c.args.store.now) (g.met.S.Store.paged c.lend_strong.new.store) c.in-Ok.ensures.ready c.in-Ok.ensures.bytes c.lend_strong.ensures.sized c.in-Ok.ensures.cause.kept
+pub returns-in-Ok-clause-answered : goal.returns-in-Ok-clause-answered
+returns-in-Ok-clause-answered g c = hidden_out c.output_laws.ensures c.removal_laws.ensures c.args.kernel.now c.lend_strong.new.memory c.args.call.now c.args.region.now c.args.range.now c.in-Ok.plan (g.S.Store.view c.args.store.now) (g.S.Store.view c.lend_strong.new.store) c.requires.ready c.requires.class c.in-Ok.ensures.lent c.in-Ok.ensures.plan c.lend_strong.ensures.shut c.hiding_laws.ensures c.add_output.new.kernel c.hide_region.new.kernel c.add_output.ensures c.hide_region.ensures (g.met.S.Store.paged c.args.store.now) (g.met.S.Store.paged c.lend_strong.new.store) c.in-Ok.ensures.ready c.in-Ok.ensures.bytes c.lend_strong.ensures.sized c.in-Ok.ensures.cause.kept
 
-pub returns-in-Err : goal.returns-in-Err
-returns-in-Err g c = unlent_out c.output_laws.ensures c.args.kernel.now c.lend_strong.new.memory c.args.call.now c.args.region.now c.args.range.now (g.S.Store.view c.args.store.now) (g.S.Store.view c.lend_strong.new.store) c.requires.ready c.in-Err.ensures.failed c.lend_strong.ensures.shut c.lend_strong.ensures.sized c.in-Err.ensures.cause.failed
+pub returns-in-Err-clause-answered : goal.returns-in-Err-clause-answered
+returns-in-Err-clause-answered g c = unlent_out c.output_laws.ensures c.args.kernel.now c.lend_strong.new.memory c.args.call.now c.args.region.now c.args.range.now (g.S.Store.view c.args.store.now) (g.S.Store.view c.lend_strong.new.store) c.requires.ready c.in-Err.ensures.failed c.lend_strong.ensures.shut c.lend_strong.ensures.sized c.in-Err.ensures.cause.failed
+
+pub returns-in-Ok-clause-copies : goal.returns-in-Ok-clause-copies
+returns-in-Ok-clause-copies g c = meters_left _ c.args.kernel.now.memory c.lend_strong.new.memory c.hide_region.new.kernel.memory (ap (λ (z : FrameTable). z.meters) c.hide_region.ensures.object.frames ∙ ap (λ (z : Kernel). z.memory.frames.meters) c.add_output.ensures) (given_row c.args.kernel.now c.lend_strong.new.memory c.args.call.now c.args.region.now c.args.range.now (g.S.Store.view c.args.store.now) c.requires.ready c.requires.class c.lend_strong.ensures.copies)
+
+pub returns-in-Err-clause-copies : goal.returns-in-Err-clause-copies
+returns-in-Err-clause-copies g c = (given_row c.args.kernel.now c.lend_strong.new.memory c.args.call.now c.args.region.now c.args.range.now (g.S.Store.view c.args.store.now) c.requires.ready c.requires.class c.lend_strong.ensures.copies)

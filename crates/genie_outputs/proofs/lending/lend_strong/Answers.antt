@@ -15,3 +15,9 @@ returns-in-Ok-clause-lent g c = lent_narrowed c.args.memory.now c.prepare_strong
 
 pub returns-in-Err-clause-failed : goal.returns-in-Err-clause-failed
 returns-in-Err-clause-failed g c = back_narrowed c.args.memory.now c.prepare_strong.new.memory c.guard-in-Err.new.objects (g.S.Store.view c.args.store.now) (g.S.Store.view c.prepare_strong.new.store) (is_of_range c.args.memory.now.frames.page c.args.range.now) c.guard-in-Err.ensures.all c.in-Err.ensures.failed
+
+pub returns-in-Ok-clause-copies : goal.returns-in-Ok-clause-copies
+returns-in-Ok-clause-copies g c = c.prepare_strong.ensures.spends.work
+
+pub returns-in-Err-clause-copies : goal.returns-in-Err-clause-copies
+returns-in-Err-clause-copies g c = c.prepare_strong.ensures.spends.work

@@ -1,6 +1,8 @@
 use Rattle.genie_outputs.proofs.Lent.{object_there}
 use Rattle.genie_outputs.proofs.Reached.{can_prepare}
 use Rattle.genie_outputs.proofs.Shared.{frames_room, frames_there, shared, unshared}
+use Rattle.genie_outputs.proofs.Rows.{wires_move_none}
+use Rattle.genie_base.specs.Transfers.{is_emulated}
 use Rattle.genie_outputs.proofs.lending.share.Goals as goal
 
 pub lend_weak-requires-clause-range : goal.lend_weak-requires-clause-range
@@ -20,3 +22,6 @@ returns-in-Ok-clause-shared g c = shared c.output_laws.ensures c.args.kernel.now
 
 pub returns-in-Err-clause-failed : goal.returns-in-Err-clause-failed
 returns-in-Err-clause-failed g c = unshared c.output_laws.ensures c.args.kernel.now c.lend_weak.new.memory c.args.call.now c.args.region.now c.args.range.now (g.S.Store.view c.args.store.now) (g.S.Store.view c.lend_weak.new.store) c.requires.ready c.in-Err.ensures.failed c.lend_weak.ensures.shut c.lend_weak.ensures.sized
+
+pub returns-in-Ok-clause-copies : goal.returns-in-Ok-clause-copies
+returns-in-Ok-clause-copies g c = wires_move_none (is_emulated c.args.call.now.sem) _ _ c.args.kernel.now.memory c.lend_weak.new.memory c.wire_plan.new.frames c.wire_plan.ensures c.lend_weak.ensures.copies

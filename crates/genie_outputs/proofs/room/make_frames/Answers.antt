@@ -1,3 +1,5 @@
+use Rattle.genie_copying.specs.Lemmas.Making.{room_no_dearer}
+use Rattle.genie_hiding.specs.Hidden.{objects_of}
 use Rattle.genie_outputs.proofs.room.make_frames.Goals as goal
 
 pub returns-in-Ok-clause-moved : goal.returns-in-Ok-clause-moved
@@ -5,3 +7,9 @@ returns-in-Ok-clause-moved g c = c.memory_moves.ensures.room c.args.kernel.now _
 
 pub returns-in-Err-clause-moved : goal.returns-in-Err-clause-moved
 returns-in-Err-clause-moved g c = c.memory_moves.ensures.room c.args.kernel.now _ (g.S.Store.view c.args.store.now) (g.S.Store.view c.make_room.new.store) c.requires.good c.requires.sized (λ i. record (c.args.kernel.now) { memory = c.make_room.new.memory; hidden = c.make_room.ensures.hidden i; clock = c.make_room.new.clock }) c.make_room.ensures.room
+
+pub returns-in-Ok-clause-costs : goal.returns-in-Ok-clause-costs
+returns-in-Ok-clause-costs g c = room_no_dearer (objects_of c.args.kernel.now.hidden) c.args.kernel.now.memory c.make_room.new.memory (g.S.Store.view c.args.store.now) (g.S.Store.view c.make_room.new.store) c.requires.good.sound c.make_room.ensures.room
+
+pub returns-in-Err-clause-costs : goal.returns-in-Err-clause-costs
+returns-in-Err-clause-costs g c = room_no_dearer (objects_of c.args.kernel.now.hidden) c.args.kernel.now.memory c.make_room.new.memory (g.S.Store.view c.args.store.now) (g.S.Store.view c.make_room.new.store) c.requires.good.sound c.make_room.ensures.room

@@ -1,17 +1,24 @@
+use Rattle.genie_outputs.proofs.Rows.{failed_keeps, out_keeps}
 use Rattle.genie_outputs.proofs.Answered.{answered_since, failed_answered, moved_config}
 use Rattle.genie_outputs.proofs.sharing.out_shared.Goals as goal
 
 pub returns-in-Ok-clause-kept : goal.returns-in-Ok-clause-kept
-returns-in-Ok-clause-kept g c = (answered_since c.output_laws.ensures c.args.kernel.now c.make_ready.new.kernel c.begin_shared.new.kernel _ (g.S.Store.view c.args.store.now) (g.S.Store.view c.make_ready.new.store) (g.S.Store.view c.begin_shared.new.store) c.begin_shared.result c.make_ready.ensures.moved c.in-Ok.ensures.cause.kept c.begin_shared.ensures).kept
+returns-in-Ok-clause-kept g c = (answered_since c.output_laws.ensures c.args.kernel.now c.make_ready.new.kernel c.begin_shared.new.kernel _ (g.S.Store.view c.args.store.now) (g.S.Store.view c.make_ready.new.store) (g.S.Store.view c.begin_shared.new.store) c.begin_shared.result c.make_ready.ensures.moved c.in-Ok.ensures.cause.kept c.begin_shared.ensures.answered).kept
 
 pub returns-in-Ok-clause-config : goal.returns-in-Ok-clause-config
-returns-in-Ok-clause-config g c = (answered_since c.output_laws.ensures c.args.kernel.now c.make_ready.new.kernel c.begin_shared.new.kernel _ (g.S.Store.view c.args.store.now) (g.S.Store.view c.make_ready.new.store) (g.S.Store.view c.begin_shared.new.store) c.begin_shared.result c.make_ready.ensures.moved c.in-Ok.ensures.cause.kept c.begin_shared.ensures).config
+returns-in-Ok-clause-config g c = (answered_since c.output_laws.ensures c.args.kernel.now c.make_ready.new.kernel c.begin_shared.new.kernel _ (g.S.Store.view c.args.store.now) (g.S.Store.view c.make_ready.new.store) (g.S.Store.view c.begin_shared.new.store) c.begin_shared.result c.make_ready.ensures.moved c.in-Ok.ensures.cause.kept c.begin_shared.ensures.answered).config
 
 pub returns-in-Ok-clause-step : goal.returns-in-Ok-clause-step
-returns-in-Ok-clause-step g c = (answered_since c.output_laws.ensures c.args.kernel.now c.make_ready.new.kernel c.begin_shared.new.kernel _ (g.S.Store.view c.args.store.now) (g.S.Store.view c.make_ready.new.store) (g.S.Store.view c.begin_shared.new.store) c.begin_shared.result c.make_ready.ensures.moved c.in-Ok.ensures.cause.kept c.begin_shared.ensures).step
+returns-in-Ok-clause-step g c = (answered_since c.output_laws.ensures c.args.kernel.now c.make_ready.new.kernel c.begin_shared.new.kernel _ (g.S.Store.view c.args.store.now) (g.S.Store.view c.make_ready.new.store) (g.S.Store.view c.begin_shared.new.store) c.begin_shared.result c.make_ready.ensures.moved c.in-Ok.ensures.cause.kept c.begin_shared.ensures.answered).step
 
 pub returns-in-Err-clause-step : goal.returns-in-Err-clause-step
 returns-in-Err-clause-step g c = (failed_answered c.args.kernel.now c.make_ready.new.kernel _ (g.S.Store.view c.args.store.now) (g.S.Store.view c.make_ready.new.store) c.requires.accepted c.make_ready.ensures.moved c.in-Err.ensures.cause.failed).step
+
+pub returns-in-Ok-clause-copying : goal.returns-in-Ok-clause-copying
+returns-in-Ok-clause-copying g c = out_keeps c.args.kernel.now c.make_ready.new.kernel c.begin_shared.new.kernel _ _ _ (g.S.Store.view c.args.store.now) (g.S.Store.view c.make_ready.new.store) c.begin_shared.result c.requires.good c.make_ready.ensures.moved c.in-Ok.ensures.ready c.make_ready.ensures.costs c.make_ready.ensures.copies c.begin_shared.ensures.copies
+
+pub returns-in-Err-clause-copying : goal.returns-in-Err-clause-copying
+returns-in-Err-clause-copying g c = failed_keeps c.args.kernel.now c.make_ready.new.kernel c.args.pid c.args.sem c.args.dev c.args.port c.args.flow c.args.addr c.args.len c.make_ready.ensures.copies
 
 pub returns-in-Err-clause-config : goal.returns-in-Err-clause-config
 returns-in-Err-clause-config g c = moved_config c.args.kernel.now c.make_ready.new.kernel (g.S.Store.view c.args.store.now) (g.S.Store.view c.make_ready.new.store) c.make_ready.ensures.moved

@@ -2,6 +2,8 @@ use Rattle.std.proofs.Common.{ap}
 use Rattle.genie_base.specs.Transfers.{is_strong, is_system}
 use Rattle.genie_outputs.proofs.Lent.{lent_out, object_there, unlent_out}
 use Rattle.genie_outputs.proofs.Reached.{can_prepare, may_output}
+use Rattle.genie_kernel.specs.declared.kernel.Kernel.{Kernel}
+use Rattle.genie_outputs.proofs.Rows.{meters_left, sent_row}
 use Rattle.genie_outputs.proofs.strong.begin_lent.Goals as goal
 
 pub lend_strong-requires-clause-range : goal.lend_strong-requires-clause-range
@@ -13,8 +15,14 @@ add_output-requires-clause-few g c = (may_output c.args.kernel.now c.args.call.n
 pub lend_strong-requires-clause-there : goal.lend_strong-requires-clause-there
 lend_strong-requires-clause-there g c = object_there c.args.kernel.now c.args.call.now c.args.region.now c.args.range.now (g.S.Store.view c.args.store.now) c.requires.ready
 
-pub returns-in-Ok : goal.returns-in-Ok
-returns-in-Ok g c = lent_out c.output_laws.ensures c.args.kernel.now c.lend_strong.new.memory c.args.call.now c.args.region.now c.args.range.now c.in-Ok.plan (g.S.Store.view c.args.store.now) (g.S.Store.view c.lend_strong.new.store) c.requires.ready (ap is_strong c.requires.class) (ap is_system c.requires.class) c.add_output.new.kernel c.add_output.ensures c.in-Ok.ensures.lent (g.met.S.Store.paged c.args.store.now) c.in-Ok.ensures.plan c.in-Ok.ensures.ready c.in-Ok.ensures.bytes c.lend_strong.ensures.shut c.lend_strong.ensures.sized c.in-Ok.ensures.cause.kept
+pub returns-in-Ok-clause-answered : goal.returns-in-Ok-clause-answered
+returns-in-Ok-clause-answered g c = lent_out c.output_laws.ensures c.args.kernel.now c.lend_strong.new.memory c.args.call.now c.args.region.now c.args.range.now c.in-Ok.plan (g.S.Store.view c.args.store.now) (g.S.Store.view c.lend_strong.new.store) c.requires.ready (ap is_strong c.requires.class) (ap is_system c.requires.class) c.add_output.new.kernel c.add_output.ensures c.in-Ok.ensures.lent (g.met.S.Store.paged c.args.store.now) c.in-Ok.ensures.plan c.in-Ok.ensures.ready c.in-Ok.ensures.bytes c.lend_strong.ensures.shut c.lend_strong.ensures.sized c.in-Ok.ensures.cause.kept
 
-pub returns-in-Err : goal.returns-in-Err
-returns-in-Err g c = unlent_out c.output_laws.ensures c.args.kernel.now c.lend_strong.new.memory c.args.call.now c.args.region.now c.args.range.now (g.S.Store.view c.args.store.now) (g.S.Store.view c.lend_strong.new.store) c.requires.ready c.in-Err.ensures.failed c.lend_strong.ensures.shut c.lend_strong.ensures.sized c.in-Err.ensures.cause.failed
+pub returns-in-Err-clause-answered : goal.returns-in-Err-clause-answered
+returns-in-Err-clause-answered g c = unlent_out c.output_laws.ensures c.args.kernel.now c.lend_strong.new.memory c.args.call.now c.args.region.now c.args.range.now (g.S.Store.view c.args.store.now) (g.S.Store.view c.lend_strong.new.store) c.requires.ready c.in-Err.ensures.failed c.lend_strong.ensures.shut c.lend_strong.ensures.sized c.in-Err.ensures.cause.failed
+
+pub returns-in-Ok-clause-copies : goal.returns-in-Ok-clause-copies
+returns-in-Ok-clause-copies g c = meters_left _ c.args.kernel.now.memory c.lend_strong.new.memory c.add_output.new.kernel.memory (ap (λ (z : Kernel). z.memory.frames.meters) c.add_output.ensures) (sent_row c.args.kernel.now c.lend_strong.new.memory c.args.call.now c.args.region.now c.args.range.now (g.S.Store.view c.args.store.now) c.requires.ready c.requires.class c.requires.emulated c.lend_strong.ensures.copies)
+
+pub returns-in-Err-clause-copies : goal.returns-in-Err-clause-copies
+returns-in-Err-clause-copies g c = (sent_row c.args.kernel.now c.lend_strong.new.memory c.args.call.now c.args.region.now c.args.range.now (g.S.Store.view c.args.store.now) c.requires.ready c.requires.class c.requires.emulated c.lend_strong.ensures.copies)
