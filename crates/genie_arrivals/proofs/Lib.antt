@@ -26,3 +26,4 @@ mod Unheld
 mod Filling
 mod Filled
 mod Moving
+mod FreshStored

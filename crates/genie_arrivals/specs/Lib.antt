@@ -14,3 +14,4 @@ pub mod Clearing
 pub mod Paging
 pub mod Waiting
 pub mod Outboard
+pub mod FreshStored
