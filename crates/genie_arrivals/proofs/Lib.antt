@@ -35,3 +35,4 @@ mod Unheld
 mod Filling
 mod Filled
 mod Moving
+mod FreshStored

@@ -16,3 +16,4 @@ pub mod Waiting
 pub mod Pooled
 pub mod PooledRoom
 pub mod Outboard
+pub mod FreshStored

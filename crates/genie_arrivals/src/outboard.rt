@@ -54,7 +54,7 @@ fn place_of_bytes(kernel: &Kernel, id: TransferId) -> Destination
 }
 
 // Stores bytes in the frames that are lent for an input, from the first place of its range on.
-fn land_bytes(frames: &mut Frames, plan: &InPlan, bytes: &[u8])
+pub(crate) fn land_bytes(frames: &mut Frames, plan: &InPlan, bytes: &[u8])
     requires ready { CanLand frames.old (input_frames plan.now.loans.items) plan.now.first plan.now.len }
     requires room { frames.old.landed + length bytes.now < 2 ^ 64 }
     ensures { LandsBytes plan.now bytes.now frames.old frames.new }
