@@ -27,3 +27,5 @@ mod Filling
 mod Filled
 mod Moving
 mod FreshStored
+mod LateAim
+mod Written
