@@ -1,6 +1,6 @@
 -- The range of a copy input on an outboard device may be made ready, and as many frames be left.
-use Rattle.std.proofs.Common.{◌≡◌, ℕ, ◌+◌, ◌*◌, ◌/◌, ◌^◌, ◌<◌, ◌≤◌, Bool, true, false, [], refl, sym, ap, subst, arith, rules, ◌∙◌, length}
-use Rattle.std.specs.Prelude.{Option, Some, None, IfSome, count_by, find, is_some, unwrap_or, if◌then◌else◌}
+use Rattle.std.proofs.Common.{◌≡◌, ℕ, ◌+◌, ◌*◌, ◌/◌, ◌^◌, ◌<◌, ◌≤◌, Bool, true, [], refl, sym, ap, subst, arith, length}
+use Rattle.std.specs.Prelude.{Option, Some, None, IfSome, count_by, find, is_some, take, unwrap_or, if◌then◌else◌}
 use Rattle.genie_base.specs.Counts.{cost, span}
 use Rattle.genie_base.specs.Transfers.{class_of, is_strong}
 use Rattle.genie_base.specs.declared.semantics.Class.TheVariants.{Copy}
@@ -30,11 +30,16 @@ use Rattle.genie_changes.specs.Making.{IsMoved, ShowsAndLends}
 use Rattle.genie_room.specs.Frames.{PendingAreAvailable, loan_count}
 use Rattle.genie_arrivals.specs.CopyLaws.{CopyLaws}
 use Rattle.genie_arrivals.specs.FreshStored.{CanStoreBytes}
-use Rattle.genie_arrivals.specs.Outboard.{IsLateOutboard, IsOutboardInput}
+use Rattle.std.proofs.lemmas.List.{length-take}
+use Rattle.genie_device.specs.Device.{DeviceView}
+use Rattle.genie_kernel.specs.Matching.{has_waiting, room_in}
+use Rattle.genie_model.specs.Pending.{is_ready}
+use Rattle.genie_arrivals.specs.Outboard.{CanFetch, IsLateOutboard, IsOutboardInput, fetched}
+use Rattle.genie_arrivals.proofs.Buffered.{has_some, waits_in}
 use Rattle.genie_arrivals.specs.Targets.{IsPending, IsTarget, IsTargetOf}
 use Rattle.genie_arrivals.proofs.Lent.{lends_at}
-use Rattle.genie_arrivals.proofs.Readying.{IsRoomy, is_roomy, ready_meters, ready_shows, span_known}
-use Rattle.genie_arrivals.proofs.WeakPlan.{is_waiting}
+use Rattle.genie_arrivals.proofs.Readying.{IsRoomy, is_roomy, ready_shows, span_known}
+use Rattle.genie_arrivals.proofs.WeakPlan.{is_waiting, outboard_at}
 
 begins_there : (t : Transfer) → class_of t.sem ≡ Copy → t.dir ≡ Inward → begins_at t ≡ t.addr
 begins_there t class inward = ap (λ (b : Bool). unwrap_or (if b then Some t.addr else None) t.offset) (λ i. is_copy_input (class i) (inward i))
@@ -120,3 +125,24 @@ late_can m v w range few work most fits within free room meters new ready after 
       meters = after;
       taken = omega (arith, meters.taken, ready.spends.most_taken, most);
     }
+
+-- what is stored of it can be fetched
+can_fetch : (k : Kernel) (n : ℕ) (t : Transfer) → IsGood k → find (has_number n) k.transfers ≡ Some t → IsOutboardInput Copy k.devices t → (b : Option ℕ) → t.buffer ≡ b → is_some b ≡ true → CanFetch t.stored (entry k.devices t.dev) b
+can_fetch k n t g found x None is some = absurd (cc)
+can_fetch k n t g found x (Some b) is some =
+    let at = outboard_at k t.dev g x.outboard in
+    let waits = waits_in k n t g found b is in
+    let stored : IfSome t.buffer (λ b. t.stored ≤ room_in (entry k.devices t.dev) (entry k.pools t.dev) b) = all_has (λ (u : Transfer). IfSome u.buffer (λ b. u.stored ≤ room_in (entry k.devices u.dev) (entry k.pools u.dev) b)) k.transfers g.arrived.stored t (find_has (has_number n) k.transfers t found).0 in
+    let fits : t.stored ≤ room_in (entry k.devices t.dev) (entry k.pools t.dev) b = subst (λ o. IfSome o (λ b. t.stored ≤ room_in (entry k.devices t.dev) (entry k.pools t.dev) b)) is stored in
+    subst (λ o. CanFetch t.stored o (Some b)) (sym at.there) (
+      subst (λ o. has_waiting o None b ≡ true) at.there (subst (λ o. has_waiting (entry k.devices t.dev) o b ≡ true) at.unpooled waits),
+      subst (λ o. t.stored ≤ room_in o None b) at.there (subst (λ o. t.stored ≤ room_in (entry k.devices t.dev) o b) at.unpooled fits),
+    )
+
+pub late_fetch : (k : Kernel) (n : ℕ) (t : Transfer) → IsGood k → find (has_number n) k.transfers ≡ Some t → IsOutboardInput Copy k.devices t → is_ready t.phase ≡ true → CanFetch t.stored (entry k.devices t.dev) t.buffer
+late_fetch k n t g found x ready = can_fetch k n t g found x t.buffer refl (has_some k n t g found ready (is_waiting k t x.inward x.outboard))
+
+pub fetched_all : (n : ℕ) (o : Option DeviceView) (b : Option ℕ) → CanFetch n o b → n ≡ length (take n (fetched o b))
+fetched_all n None b h = absurd h
+fetched_all n (Some v) None h = absurd h
+fetched_all n (Some v) (Some b) h = let e = length-take n (fetched (Some v) (Some b)) in omega (arith, e, h.1)

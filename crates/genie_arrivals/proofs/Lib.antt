@@ -29,3 +29,4 @@ mod Moving
 mod FreshStored
 mod LateAim
 mod Written
+mod CopyLanded

@@ -1,8 +1,8 @@
 -- The kernel once bytes were stored in a region, and no loan and no frame of the system has changed.
-use Rattle.std.proofs.Common.{◌≡◌, ℕ, ◌/◌, Bool, true, false, not, List, [], ◌∷◌, refl, sym, ap, subst, arith, ◌∙◌, length, get_or, ⊎_elim, inl, inr}
-use Rattle.std.specs.Prelude.{All, ◌⊎◌, ◌==◌, if◌then◌else◌}
+use Rattle.std.proofs.Common.{◌≡◌, ℕ, ◌/◌, Bool, true, false, not, List, [], ◌∷◌, refl, sym, ap, arith, ◌∙◌, length, get_or, ⊎_elim, inl, inr}
+use Rattle.std.specs.Prelude.{if◌then◌else◌}
 use Rattle.genie_base.specs.Counts.{span}
-use Rattle.genie_frame.specs.declared.frame.Owner.TheVariants.{Free, System, Pool, Nobody}
+use Rattle.genie_frame.specs.declared.frame.Owner.TheVariants.{Free, Pool, Nobody}
 use Rattle.genie_frame.specs.FrameTable.{counts_at, is_lent, is_page, owner_at}
 use Rattle.genie_hiding.specs.Hidden.{is_among, objects_of}
 use Rattle.genie_hiding.specs.Lemmas.Naming.{fits_kept}
@@ -11,7 +11,6 @@ use Rattle.genie_object.specs.declared.objects.Entry.{Entry}
 use Rattle.genie_object.specs.Objects.{is_absent, object_at}
 use Rattle.genie_object.specs.Sound.{FitsHidden}
 use Rattle.genie_object.specs.Touching.{is_in_range}
-use Rattle.genie_region.specs.declared.region.Region.{Region}
 use Rattle.genie_model.specs.Lemmas.Lists.{has_at}
 use Rattle.genie_kernel.specs.declared.kernel.Kernel.{Kernel}
 use Rattle.genie_kernel.specs.declared.transfer.Transfer.{Transfer}
@@ -19,7 +18,7 @@ use Rattle.genie_kernel.specs.Backed.{AreGuarded, all_regions}
 use Rattle.genie_kernel.specs.Calls.{is_strong_call}
 use Rattle.genie_kernel.specs.Good.{IsGood}
 use Rattle.genie_kernel.specs.Held.{weak_transfers}
-use Rattle.genie_kernel.specs.Kept.{Kept, KeepsOwner}
+use Rattle.genie_kernel.specs.Kept.{KeepsOwner}
 use Rattle.genie_kernel.specs.Loans.{frames_of}
 use Rattle.genie_kernel.specs.Regions.{owned_regions}
 use Rattle.genie_kernel.specs.Lemmas.Staying.{lent_true, pool_same, system_same, weak_held, weak_there}

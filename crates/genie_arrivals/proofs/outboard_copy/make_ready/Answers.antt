@@ -1,4 +1,4 @@
-use Rattle.std.proofs.Common.{◌≡◌, ◌*◌, ◌/◌, ◌+◌, ◌≤◌, ℕ, length, refl, sym, subst, arith, ◌∙◌}
+use Rattle.std.proofs.Common.{◌≡◌, ◌*◌, ◌≤◌, ℕ, refl, sym, subst, arith, ◌∙◌}
 use Rattle.genie_base.specs.Counts.{span}
 use Rattle.genie_hiding.specs.Rooms.{available}
 use Rattle.genie_object.specs.Lemmas.Works.{page_most}
