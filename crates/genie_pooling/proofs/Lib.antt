@@ -10,3 +10,6 @@ pub mod Ends
 pub mod Meeting
 pub mod Received
 pub mod Rest
+pub mod Counting
+pub mod Record
+pub mod Still

@@ -1,5 +1,6 @@
 -- The receive step of a pooled device.
-use Rattle.std.specs.Prelude.{◌≡◌, ℕ, ◌+◌, ◌*◌, ◌==◌, ◌&&◌, Bool, true, false, List, length, count_by, Option, None, Some}
+use Rattle.std.specs.Prelude.{◌≡◌, ℕ, ◌+◌, ◌*◌, ◌==◌, Bool, true, false, List, count_by, Option, None, Some}
+use Rattle.genie_base.specs.declared.config.DeviceConfig.{DeviceConfig}
 use Rattle.genie_base.specs.declared.config.Kind.{Kind}
 use Rattle.genie_base.specs.declared.config.Kind.TheVariants.{Early, Pooled, Outboard}
 use Rattle.genie_base.specs.declared.reply.Reply.{Reply}
@@ -37,9 +38,9 @@ abbrev pub IsWithinAt : Header → Option DeviceView → Type 0
 IsWithinAt h None = ⊥
 IsWithinAt h (Some v) = IsWithin h v
 
--- as many datagrams wait as the device has buffers, and none is on its way
+-- as many datagrams wait as the device has buffers
 abbrev pub is_busy_now : ℕ → List Transfer → DeviceView → Bool
-is_busy_now d transfers v = (length v.gathered == 0) && (count_by (has_arrived d) transfers == v.config.depth)
+is_busy_now d transfers v = count_by (has_arrived d) transfers == v.config.depth
 
 -- none is present, and one may come in
 pub record IsOutside (d : ℕ) (transfers : List Transfer) (v : DeviceView) : Type 0 where
@@ -69,3 +70,8 @@ pub record FillsPayload (d : ℕ) (h : Header) (taken n : ℕ) (old new : HostVi
   pub frames : FrameTable
   pub fills : FillsBuffer d (offset_at (entry before.config.devices d)) (16 * before.config.page) taken n old new before.devices devices before.memory.frames frames before.pools moved
   pub ends : EndsStep moved.course d h taken moved (with_frames before devices frames) after r
+
+-- how many buffers a device has
+abbrev pub depth_at : Option DeviceConfig → ℕ
+depth_at None = 0
+depth_at (Some c) = c.depth

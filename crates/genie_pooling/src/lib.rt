@@ -6,3 +6,4 @@ pub mod buffers;
 pub mod deliver;
 pub mod filling;
 pub mod pooled;
+pub mod waiting;
