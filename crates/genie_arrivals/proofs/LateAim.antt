@@ -1,5 +1,5 @@
 -- The range of a copy input on an outboard device may be made ready, and as many frames be left.
-use Rattle.std.proofs.Common.{◌≡◌, ℕ, ◌+◌, ◌*◌, ◌/◌, ◌^◌, ◌<◌, ◌≤◌, Bool, true, [], refl, sym, ap, subst, arith, length}
+use Rattle.std.proofs.Common.{◌≡◌, ℕ, ◌+◌, ◌*◌, ◌/◌, ◌^◌, ◌<◌, ◌≤◌, Bool, true, [], refl, sym, ap, subst, arith, length, ◌∙◌}
 use Rattle.std.specs.Prelude.{Option, Some, None, IfSome, count_by, find, is_some, take, unwrap_or, if◌then◌else◌}
 use Rattle.genie_base.specs.Counts.{cost, span}
 use Rattle.genie_base.specs.Transfers.{class_of, is_strong}
@@ -29,14 +29,15 @@ use Rattle.genie_kernel.specs.Planned.{Lends, LendsInput, LendsStrongly, is_earl
 use Rattle.genie_changes.specs.Making.{IsMoved, ShowsAndLends}
 use Rattle.genie_room.specs.Frames.{PendingAreAvailable, loan_count}
 use Rattle.genie_arrivals.specs.CopyLaws.{CopyLaws}
-use Rattle.genie_arrivals.specs.FreshStored.{CanStoreBytes}
+use Rattle.genie_arrivals.specs.FreshStored.{CanStoreBytes, OwnerIs}
 use Rattle.std.proofs.lemmas.List.{length-take}
 use Rattle.genie_device.specs.Device.{DeviceView}
 use Rattle.genie_kernel.specs.Matching.{has_waiting, room_in}
 use Rattle.genie_model.specs.Pending.{is_ready}
 use Rattle.genie_arrivals.specs.Outboard.{CanFetch, IsLateOutboard, IsOutboardInput, fetched}
 use Rattle.genie_arrivals.proofs.Buffered.{has_some, waits_in}
-use Rattle.genie_arrivals.specs.Targets.{IsPending, IsTarget, IsTargetOf}
+use Rattle.genie_arrivals.specs.Waiting.{IsLateGone, IsLateLost, LosesBytes}
+use Rattle.genie_arrivals.specs.Targets.{HasNoTarget, HasNoTargetOf, IsPending, IsTarget, IsTargetOf}
 use Rattle.genie_arrivals.proofs.Lent.{lends_at}
 use Rattle.genie_arrivals.proofs.Readying.{IsRoomy, is_roomy, ready_shows, span_known}
 use Rattle.genie_arrivals.proofs.WeakPlan.{is_waiting, outboard_at}
@@ -146,3 +147,17 @@ pub fetched_all : (n : ℕ) (o : Option DeviceView) (b : Option ℕ) → CanFetc
 fetched_all n None b h = absurd h
 fetched_all n (Some v) None h = absurd h
 fetched_all n (Some v) (Some b) h = let e = length-take n (fetched (Some v) (Some b)) in omega (arith, e, h.1)
+
+both_some : {P Q R : Transfer → Type 0} → ((t : Transfer) → P t → Q t → R t) → (o : Option Transfer) → IfSome o P → IfSome o Q → IfSome o R
+both_some f None p q = tt
+both_some f (Some t) p q = f t p q
+
+-- one whose process is gone, or may not write its range
+pub late_gone : (k : Kernel) (n : ℕ) (o : Option ℕ) → IsLateOutboard Copy k n → IfSome (find (has_number n) k.transfers) (OwnerIs o) → o ≡ None → IsLateGone k n
+late_gone k n o case owner none = both_some (λ t x e. record { waiting = is_waiting k t x.inward x.outboard; gone = sym e ∙ none }) (find (has_number n) k.transfers) case owner
+
+pub late_lost : (k : Kernel) (n : ℕ) (o : Option ℕ) (p : ℕ) → IsLateOutboard Copy k n → IfSome (find (has_number n) k.transfers) (λ (t : Transfer). OwnerIs o t × HasNoTarget k t) → o ≡ Some p → IsLateLost k n
+late_lost k n o p case owner some = both_some (λ t x e. record { waiting = is_waiting k t x.inward x.outboard; pid = p; owner = sym e.0 ∙ some; loses = subst (LosesBytes k t) (sym x.class_is) e.1 }) (find (has_number n) k.transfers) case owner
+
+pub both_known : (k : Kernel) (n : ℕ) (o : Option ℕ) → IfSome (find (has_number n) k.transfers) (OwnerIs o) → HasNoTargetOf k n → IfSome (find (has_number n) k.transfers) (λ (t : Transfer). OwnerIs o t × HasNoTarget k t)
+both_known k n o a b = both_some (λ t x y. (x, y)) (find (has_number n) k.transfers) a b

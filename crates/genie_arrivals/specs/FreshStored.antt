@@ -1,5 +1,5 @@
 -- Bytes that lie in a device's memory are stored in a range, through fresh frames.
-use Rattle.std.specs.Prelude.{◌≡◌, ◌≢◌, ℕ, ◌+◌, ◌/◌, ◌^◌, ◌<◌, ◌≤◌, List, [], length, count_by, find, Some}
+use Rattle.std.specs.Prelude.{◌≡◌, ◌≢◌, ℕ, ◌+◌, ◌/◌, ◌^◌, ◌<◌, ◌≤◌, List, [], length, count_by, find, Option, Some}
 use Rattle.genie_base.specs.Bytes.{overlaid}
 use Rattle.genie_base.specs.Counts.{span}
 use Rattle.genie_frame.specs.FrameTable.{is_free}
@@ -51,3 +51,7 @@ pub record StoresPending (n : ℕ) (range : Range) (old new : Kernel) : Type 0 w
   pub size : range.len ≡ length (waiting_bytes old.devices transfer)
   pub stores : StoresBytes old.memory new.memory range.object.0 range.off (waiting_bytes old.devices transfer)
   pub only : new ≡ record old { memory = new.memory }
+
+-- this is its process, if it has one
+abbrev pub OwnerIs : Option ℕ → Transfer → Type 0
+OwnerIs owner t = owner ≡ t.owner

@@ -1,5 +1,5 @@
 //! The end of copy inputs on outboard devices, whose bytes are stored then.
-ghost use Rattle.std.specs.Prelude.{◌≡◌, ◌^◌, ◌<◌, ℕ, None, OnOk, length};
+ghost use Rattle.std.specs.Prelude.{◌≡◌, ◌^◌, ◌<◌, ℕ, None, OnOk, length, IfSome, find};
 ghost use Rattle.genie_base.specs.Causes.{HasCause};
 ghost use Rattle.genie_base.specs.declared.event.Event.TheVariants as event;
 ghost use Rattle.genie_base.specs.declared.semantics.Class.TheVariants.{Copy};
@@ -9,24 +9,28 @@ ghost use Rattle.genie_model.specs.Refusing.{refuse};
 ghost use Rattle.genie_kernel.specs.Good.{IsGood};
 ghost use Rattle.genie_kernel.specs.View.{outline};
 ghost use Rattle.genie_changes.specs.Making.{IsMoved};
+ghost use Rattle.genie_kernel.specs.Calls.{has_number};
+ghost use Rattle.genie_arrivals.specs.Ends.{EndsAlone};
 ghost use Rattle.genie_arrivals.specs.Failing.{Serves};
 ghost use Rattle.genie_model.specs.Tables.{entry};
 ghost use Rattle.genie_arrivals.specs.Outboard.{CanFetch, IsLateOutboard, waiting_bytes};
-ghost use Rattle.genie_arrivals.specs.Targets.{IsPending, IsTargetOf};
-ghost use Rattle.genie_arrivals.specs.FreshStored.{CanStoreBytes, StoresBytes, StoresPending};
+ghost use Rattle.genie_arrivals.specs.Targets.{HasNoTargetOf, IsPending, IsTargetOf};
+ghost use Rattle.genie_arrivals.specs.FreshStored.{CanStoreBytes, OwnerIs, StoresBytes, StoresPending};
 
 use crate::copy::few_bytes;
 use crate::laws::{copy_laws, end_laws, swap_laws};
 use crate::outboard::{land_bytes, waiting_bytes};
 use crate::room::make_frames;
 use crate::store::store_buffer;
-use crate::waiting::end_waiting;
+use crate::target::find_target;
+use crate::waiting::{end_waiting, finish_gone_late, finish_lost_late};
 use genie_base::{Reply, TransferId};
 use genie_changes::released::{buffers_are_released, buffers_show};
 use genie_changes::settled::paged_events_are_told;
 use genie_device::Device;
 use genie_finish::ready_range;
 use genie_input::aligned_buffer;
+use genie_kernel::laws::accepted_events_step;
 use genie_kernel::{Kernel, Search, Transfer};
 use genie_object::{Memory, Range};
 use genie_plan::laws::landings_show_nowhere_else;
@@ -134,10 +138,10 @@ fn store_pending(kernel: &mut Kernel, id: TransferId, range: &Range)
     }
 }
 
-/// Ends a copy input on an outboard device whose process may write its whole range now: what is stored of it goes there, and
-/// its buffer is free. Pages of which it has a part are brought in first, so that a failure of the store, after which it is
-/// still pending, comes before the first stored byte. It answers how many bytes were stored.
-pub fn finish_copy_landed<S: Store>(
+// Ends a copy input on an outboard device whose process may write its whole range now: what is stored of it goes there, and
+// its buffer is free. Pages of which it has a part are brought in first, so that a failure of the store, after which it is
+// still pending, comes before the first stored byte. It answers how many bytes were stored.
+fn finish_copy_landed<S: Store>(
     kernel: &mut Kernel,
     store: &mut S,
     id: TransferId,
@@ -168,5 +172,54 @@ pub fn finish_copy_landed<S: Store>(
         at: None,
         n: transfer.stored,
         note: transfer.note,
+    }
+}
+
+// The process of a pending transfer, if it has one.
+fn owner_of(kernel: &Kernel, id: TransferId) -> Option<u32>
+    requires pending { IsPending kernel.now id.0 }
+    ensures { IfSome (find (has_number id.0) kernel.now.transfers) (OwnerIs result) }
+{
+    match kernel.transfers.find(Search::Number(id.0)) {
+        Some(transfer) => transfer.owner,
+        None => None,
+    }
+}
+
+// Ends one whose bytes have nowhere to go.
+fn drop_landed(kernel: &mut Kernel, id: TransferId) -> Reply<'static>
+    requires good { IsGood kernel.old }
+    requires accepted { refuse (outline kernel.old) (event.Finish id.0) ≡ None }
+    requires case { IsLateOutboard Copy kernel.old id.0 }
+    requires target { HasNoTargetOf kernel.old id.0 }
+    ensures { EndsAlone kernel.old id.0 kernel.new result }
+{
+    match owner_of(kernel, id) {
+        None => finish_gone_late(kernel, id),
+        Some(_) => finish_lost_late(kernel, id),
+    }
+}
+
+/// Ends a copy input on an outboard device. Where its process may write its whole range now, what is stored of it goes there:
+/// pages of which it has a part are brought in first, so that a failure of the store, after which it is still pending, comes
+/// before the first stored byte. Its buffer is free at its end. It answers how many bytes were stored, `lost` where the range
+/// may not be written, and `gone` where the process is gone.
+pub fn finish_copy_outboard<S: Store>(
+    kernel: &mut Kernel,
+    store: &mut S,
+    id: TransferId,
+) -> Reply<'static>
+    requires good { IsGood kernel.old }
+    requires sized { IsSized kernel.old.memory (S.view store.old) }
+    requires meters { AreBelow (2 ^ 63) kernel.old.memory.frames.meters }
+    requires landed { kernel.old.memory.frames.landed < 2 ^ 63 }
+    requires accepted { refuse (outline kernel.old) (event.Finish id.0) ≡ None }
+    requires case { IsLateOutboard Copy kernel.old id.0 }
+    ensures { Serves kernel.old (event.Finish id.0) kernel.new (S.view store.old) (S.view store.new) result }
+{
+    accepted_events_step();
+    match find_target(kernel, id) {
+        Some(range) => finish_copy_landed(kernel, store, id, &range),
+        None => drop_landed(kernel, id),
     }
 }
