@@ -2,8 +2,8 @@
 //! first posted input that it meets has the buffer.
 #![tactic(auto)]
 
-pub mod buffers;
-pub mod deliver;
-pub mod filling;
+mod buffers;
+mod deliver;
+mod filling;
 pub mod pooled;
-pub mod waiting;
+mod waiting;
