@@ -39,3 +39,8 @@ mod FreshStored
 mod LateAim
 mod Written
 mod CopyLanded
+mod BytesFilled
+mod MoveLanded
+mod MoveAim
+mod MoveCases
+mod MoveEnds
