@@ -1,6 +1,5 @@
 //! The end of move inputs on outboard devices, whose bytes are stored then.
-ghost use Rattle.std.specs.Prelude.{◌≡◌, ◌≢◌, ◌^◌, ◌<◌, ◌≤◌, ℕ, [], None, length, count_by};
-ghost use Rattle.genie_base.specs.Counts.{span};
+ghost use Rattle.std.specs.Prelude.{◌≡◌, ◌≢◌, ◌^◌, ◌<◌, ℕ, [], None, length};
 ghost use Rattle.genie_base.specs.declared.event.Event.TheVariants as event;
 ghost use Rattle.genie_base.specs.declared.semantics.Class.TheVariants.{Move};
 ghost use Rattle.genie_object.specs.Costs.{AreBelow};
