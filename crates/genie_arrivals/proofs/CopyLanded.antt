@@ -65,7 +65,7 @@ use Rattle.genie_arrivals.proofs.Written.{lent_kept, pooled_kept, written, writt
 copied : (s : flat.State) (v : flat.Transfer) (r : flat.Region) (a : ℕ) (bytes : List ℕ) → address_or_zero v.addr ≡ a → v.payload ≡ bytes → finish_copy s v (Some r) ≡ outcome (model.put s r.number (a - r.start * s.config.page) bytes) (reply.Input None v.stored v.note)
 copied s v r a bytes at is = λ i. outcome (model.put s r.number (at i - r.start * s.config.page) (is i)) (reply.Input None v.stored v.note)
 
-kept_on : (a b c : Owner) → KeepsOwner a b → KeepsOwner b c → KeepsOwner a c
+pub kept_on : (a b c : Owner) → KeepsOwner a b → KeepsOwner b c → KeepsOwner a c
 kept_on a b c x y = record { owner = joined y.owner x.owner; unfreed = y.unfreed }
   where
     joined : (c ≡ b) ⊎ (c ≡ Nobody) → (b ≡ a) ⊎ (b ≡ Nobody) → (c ≡ a) ⊎ (c ≡ Nobody)

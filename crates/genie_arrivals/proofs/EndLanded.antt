@@ -106,7 +106,7 @@ module _ (k : Kernel) (n : ℕ) (t : Transfer) (g : IsGood k) (found : find (has
       omega (arith, most, less)
 
   -- its payload is what lies in its device's memory
-  payload_is : (b : Bytes) (buffer : ℕ) → t.buffer ≡ Some buffer → (seen_as k b t).payload ≡ bytes
+  pub payload_is : (b : Bytes) (buffer : ℕ) → t.buffer ≡ Some buffer → (seen_as k b t).payload ≡ bytes
   payload_is b buffer mine =
       let at = outboard_at k t.dev g outboard in
       ap (payload_of b.seen.kept_bytes k.devices k.pools (first_waiting k.transfers) t) inward
@@ -117,7 +117,7 @@ module _ (k : Kernel) (n : ℕ) (t : Transfer) (g : IsGood k) (found : find (has
   late : (b : Bytes) → is_early_at (state_of k b) t.dev ≡ false
   late b = early_view k b t.dev ∙ (is_waiting k t inward outboard).late
 
-  region_there : (b : Bytes) (q : Region) → region_number t ≡ Some q.id.0 → find (has_id q.id.0) (owned_regions k.spaces.processes) ≡ Some q → region_of (without_transfer (state_of k b) n) (seen_as k b t) ≡ Some (region_view b.seen.entry_bytes q)
+  pub region_there : (b : Bytes) (q : Region) → region_number t ≡ Some q.id.0 → find (has_id q.id.0) (owned_regions k.spaces.processes) ≡ Some q → region_of (without_transfer (state_of k b) n) (seen_as k b t) ≡ Some (region_view b.seen.entry_bytes q)
   region_there b q names there = ap (option_and_then (region_numbered (state_of k b))) names ∙ numbered_view k b q.id.0 ∙ ap (option_map (region_view b.seen.entry_bytes)) there
 
 module _ (laws : EndLaws) (show : BuffersShow) (end : ReleasedEnds) (release : ReleasedShows) (k : Kernel) (n p : ℕ) (t : Transfer) (g : IsGood k) (accepted : refuse (outline k) (Finish n) ≡ None) (ready : is_ready t.phase ≡ true) (found : find (has_number n) k.transfers ≡ Some t) (inward : t.dir ≡ direction.Inward) (outboard : is_outboard_device (entry k.devices t.dev) ≡ true) (weak : is_strong_call t ≡ false) (F : FrameTable) (landing : LandsIn t.loans (waiting_bytes k.devices t) k.memory.frames F) where

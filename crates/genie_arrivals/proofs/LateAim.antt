@@ -3,6 +3,7 @@ use Rattle.std.proofs.Common.{◌≡◌, ℕ, ◌+◌, ◌*◌, ◌/◌, ◌^◌
 use Rattle.std.specs.Prelude.{Option, Some, None, IfSome, count_by, find, is_some, take, unwrap_or, if◌then◌else◌}
 use Rattle.genie_base.specs.Counts.{cost, span}
 use Rattle.genie_base.specs.Transfers.{class_of, is_strong}
+use Rattle.genie_base.specs.declared.semantics.Class.{Class}
 use Rattle.genie_base.specs.declared.semantics.Class.TheVariants.{Copy}
 use Rattle.genie_base.specs.declared.semantics.Direction.TheVariants.{Inward}
 use Rattle.genie_finish.specs.Ready.{MakesReady}
@@ -69,11 +70,11 @@ late_moved k new n range v w moved a = subst (λ (z : Kernel). LateAim z n range
 })
 
 -- nothing is lent for it
-pub late_unlent : (k : Kernel) (n : ℕ) (t : Transfer) → IsGood k → find (has_number n) k.transfers ≡ Some t → IsOutboardInput Copy k.devices t → t.loans ≡ Nothing
-late_unlent k n t g found is =
+pub strong_unlent : {class : Class} (k : Kernel) (n : ℕ) (t : Transfer) → IsGood k → find (has_number n) k.transfers ≡ Some t → IsOutboardInput class k.devices t → is_strong class ≡ true → t.loans ≡ Nothing
+strong_unlent k n t g found is strong_class =
     let lends = lends_at k t g (find_has (has_number n) k.transfers t found).0 in
     let late = (is_waiting k t is.inward is.outboard).late in
-    let strong : is_strong_call t ≡ true = ap is_strong is.class_is in
+    let strong : is_strong_call t ≡ true = ap is_strong is.class_is ∙ strong_class in
     let one : LendsInput k.config.page k.memory.frames.owners (is_early_device (entry k.devices t.dev)) t (is_strong_call t) = subst (Lends k.config.page k.memory.frames.owners (is_early_device (entry k.devices t.dev)) t) is.inward lends in
     let two : LendsStrongly k.config.page k.memory.frames.owners (is_early_device (entry k.devices t.dev)) t t.loans = subst (LendsInput k.config.page k.memory.frames.owners (is_early_device (entry k.devices t.dev)) t) strong one in
     subst (λ b. LendsStrongly k.config.page k.memory.frames.owners b t t.loans) late two
@@ -87,7 +88,7 @@ module _ (laws : CopyLaws) (k : Kernel) (n : ℕ) (range : Range) (g : IsGood k)
   late_frames pending =
       let has = (find_has (has_number n) k.transfers a.t a.found).0 in
       let free = all_has (λ (t : Transfer). cost_of k.config.page t + 4 ≤ available k.memory.frames + loan_count t) k.transfers (pending k g) a.t has in
-      let none : loan_count a.t ≡ 0 = ap (λ (l : Loans). length (frames_of l)) (late_unlent k n a.t g a.found a.is) in
+      let none : loan_count a.t ≡ 0 = ap (λ (l : Loans). length (frames_of l)) (strong_unlent k n a.t g a.found a.is refl) in
       let costs : cost_of k.config.page a.t ≡ 2 * span k.config.page a.t.addr a.t.len = (λ i. cost (a.is.class_is i) (a.is.inward i) (span k.config.page (begins_there a.t a.is.class_is a.is.inward i) a.t.len)) in
       let known = span_known laws k n a.t range g a.found a.is.class_is a.is.inward a.target in
       let same : span k.config.page range.off range.len ≤ span k.config.page a.t.addr a.t.len = subst (λ z. z ≤ span k.config.page a.t.addr a.t.len) (λ i. span k.config.page (sym a.target.place i) (sym a.target.size i)) known in
@@ -128,7 +129,7 @@ late_can m v w range few work most fits within free room meters new ready after 
     }
 
 -- what is stored of it can be fetched
-can_fetch : (k : Kernel) (n : ℕ) (t : Transfer) → IsGood k → find (has_number n) k.transfers ≡ Some t → IsOutboardInput Copy k.devices t → (b : Option ℕ) → t.buffer ≡ b → is_some b ≡ true → CanFetch t.stored (entry k.devices t.dev) b
+can_fetch : {class : Class} (k : Kernel) (n : ℕ) (t : Transfer) → IsGood k → find (has_number n) k.transfers ≡ Some t → IsOutboardInput class k.devices t → (b : Option ℕ) → t.buffer ≡ b → is_some b ≡ true → CanFetch t.stored (entry k.devices t.dev) b
 can_fetch k n t g found x None is some = absurd (cc)
 can_fetch k n t g found x (Some b) is some =
     let at = outboard_at k t.dev g x.outboard in
@@ -140,7 +141,7 @@ can_fetch k n t g found x (Some b) is some =
       subst (λ o. t.stored ≤ room_in o None b) at.there (subst (λ o. t.stored ≤ room_in (entry k.devices t.dev) o b) at.unpooled fits),
     )
 
-pub late_fetch : (k : Kernel) (n : ℕ) (t : Transfer) → IsGood k → find (has_number n) k.transfers ≡ Some t → IsOutboardInput Copy k.devices t → is_ready t.phase ≡ true → CanFetch t.stored (entry k.devices t.dev) t.buffer
+pub late_fetch : {class : Class} (k : Kernel) (n : ℕ) (t : Transfer) → IsGood k → find (has_number n) k.transfers ≡ Some t → IsOutboardInput class k.devices t → is_ready t.phase ≡ true → CanFetch t.stored (entry k.devices t.dev) t.buffer
 late_fetch k n t g found x ready = can_fetch k n t g found x t.buffer refl (has_some k n t g found ready (is_waiting k t x.inward x.outboard))
 
 pub fetched_all : (n : ℕ) (o : Option DeviceView) (b : Option ℕ) → CanFetch n o b → n ≡ length (take n (fetched o b))
@@ -148,7 +149,7 @@ fetched_all n None b h = absurd h
 fetched_all n (Some v) None h = absurd h
 fetched_all n (Some v) (Some b) h = let e = length-take n (fetched (Some v) (Some b)) in omega (arith, e, h.1)
 
-both_some : {P Q R : Transfer → Type 0} → ((t : Transfer) → P t → Q t → R t) → (o : Option Transfer) → IfSome o P → IfSome o Q → IfSome o R
+pub both_some : {P Q R : Transfer → Type 0} → ((t : Transfer) → P t → Q t → R t) → (o : Option Transfer) → IfSome o P → IfSome o Q → IfSome o R
 both_some f None p q = tt
 both_some f (Some t) p q = f t p q
 

@@ -41,3 +41,8 @@ mod FreshStored
 mod LateAim
 mod Written
 mod CopyLanded
+mod BytesFilled
+mod MoveLanded
+mod MoveAim
+mod MoveCases
+mod MoveEnds

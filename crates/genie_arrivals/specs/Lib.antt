@@ -17,4 +17,5 @@ pub mod Waiting
 pub mod Pooled
 pub mod PooledRoom
 pub mod Outboard
+pub mod OutboardMove
 pub mod FreshStored

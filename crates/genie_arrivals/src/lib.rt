@@ -11,6 +11,7 @@ mod laws;
 mod live;
 pub mod outboard;
 mod outboard_copy;
+pub mod outboard_move;
 mod owned;
 pub mod pooled;
 pub mod pooled_copy;
