@@ -113,3 +113,14 @@ host_served old new e h before after r outside named g good kept config only ope
   handles = opened;
   others = others_kept old.config h before after only named;
 }
+
+-- of the event as it was matched
+module _ (old new : Kernel) (e f : Event) (r : Reply) (is : e ≡ f) where
+  pub as_alone : (host : HostView) (v : StoreView) → HasHandles old.config host → IsSized old.memory v → IsPaged v → ServedAlone old f new r → Served old new e host host v v r
+  as_alone host v handles sized paged served = subst (λ x. Served old new x host host v v r) (sym is) (served host v handles sized paged)
+
+  pub as_store : (host : HostView) (v w : StoreView) → HasHandles old.config host → ServedByStore old f new v w r → Served old new e host host v w r
+  as_store host v w handles served = subst (λ x. Served old new x host host v w r) (sym is) (served host handles)
+
+  pub as_host : (before after : HostView) (v : StoreView) → IsSized old.memory v → IsPaged v → ServedByHost old f new before after r → Served old new e before after v v r
+  as_host before after v sized paged served = subst (λ x. Served old new x before after v v r) (sym is) (served v sized paged)

@@ -56,3 +56,14 @@ pub(crate) fn recv_outboard<H: Host>(
 {
     genie_gathering::outboard::recv_outboard(kernel, host, dev, len)
 }
+
+// A device receives.
+pub(crate) fn recv<H: Host>(kernel: &mut Kernel, host: &mut H, dev: u32, len: u32) -> Reply<'static>
+    requires good { IsGood kernel.old }
+    requires handles { HasHandles kernel.old.config (H.view host.old) }
+    requires landed { kernel.old.memory.frames.landed < 2 ^ 63 }
+    requires accepted { refuse (outline kernel.old) (event.Recv dev len) ≡ None }
+    ensures { ServedByHost kernel.old (event.Recv dev len) kernel.new (H.view host.old) (H.view host.new) result }
+{
+    unreachable!()
+}

@@ -1,5 +1,5 @@
 //! Transfers that end.
-ghost use Rattle.std.specs.Prelude.{◌≡◌, ◌^◌, None, find};
+ghost use Rattle.std.specs.Prelude.{◌≡◌, ◌^◌, ◌<◌, None, find};
 ghost use Rattle.genie_base.specs.declared.event.Event.TheVariants as event;
 ghost use Rattle.genie_object.specs.Costs.{AreBelow};
 ghost use Rattle.genie_object.specs.Sound.{IsSized};
@@ -45,4 +45,16 @@ pub(crate) fn finish_early<S: Store>(kernel: &mut Kernel, store: &mut S, id: u32
     ensures { ServedByStore kernel.old (event.Finish id) kernel.new (S.view store.old) (S.view store.new) result }
 {
     genie_arrivals::finish::finish_input_early(kernel, store, TransferId(id))
+}
+
+// A transfer ends.
+pub(crate) fn finish<S: Store>(kernel: &mut Kernel, store: &mut S, id: u32) -> Reply<'static>
+    requires good { IsGood kernel.old }
+    requires sized { IsSized kernel.old.memory (S.view store.old) }
+    requires meters { AreBelow (2 ^ 63) kernel.old.memory.frames.meters }
+    requires landed { kernel.old.memory.frames.landed < 2 ^ 63 }
+    requires accepted { refuse (outline kernel.old) (event.Finish id) ≡ None }
+    ensures { ServedByStore kernel.old (event.Finish id) kernel.new (S.view store.old) (S.view store.new) result }
+{
+    unreachable!()
 }

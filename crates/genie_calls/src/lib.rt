@@ -7,4 +7,5 @@ mod devices;
 mod endings;
 mod laws;
 mod spaces;
+pub mod step;
 mod transfers;
