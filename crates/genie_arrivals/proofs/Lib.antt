@@ -36,3 +36,6 @@ mod Filling
 mod Filled
 mod Moving
 mod FreshStored
+mod LateAim
+mod Written
+mod CopyLanded

@@ -60,7 +60,7 @@ fn make_ready<S: Store>(
 }
 
 // At most so many bytes of a page are copied out, and more are swapped in: all parts of pages in a basic call.
-fn few_bytes(kernel: &Kernel, sem: Semantics) -> u32 {
+pub(crate) fn few_bytes(kernel: &Kernel, sem: Semantics) -> u32 {
     if sem.emulated() {
         kernel.config.rcout
     } else {

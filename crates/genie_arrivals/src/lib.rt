@@ -10,7 +10,7 @@ pub mod held;
 mod laws;
 mod live;
 pub mod outboard;
-mod outboard_copy;
+pub mod outboard_copy;
 mod owned;
 pub mod pooled;
 pub mod pooled_copy;

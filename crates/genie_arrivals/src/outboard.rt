@@ -69,7 +69,7 @@ pub(crate) fn land_bytes(frames: &mut Frames, plan: &InPlan, bytes: &[u8])
 }
 
 // Lends the bytes that are stored of an input, as they lie in its device's memory.
-fn waiting_bytes<'a>(devices: &'a [Option<Device>; 8], transfer: &Transfer) -> &'a [u8]
+pub(crate) fn waiting_bytes<'a>(devices: &'a [Option<Device>; 8], transfer: &Transfer) -> &'a [u8]
     requires number { transfer.now.dev < 8 }
     requires waiting { CanFetch transfer.now.stored (entry devices.now transfer.now.dev) transfer.now.buffer }
     ensures { result.now ≡ waiting_bytes devices.now transfer.now }

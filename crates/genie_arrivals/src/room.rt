@@ -27,6 +27,7 @@ pub(crate) fn make_frames<S: Store>(
     ensures moved { IsMoved kernel.old kernel.new (S.view store.old) (S.view store.new) }
     ensures free { OnOk result (frames ≤ count_by is_free kernel.new.memory.frames.owners) }
     ensures meters { AreBelow (2 ^ 63 + 2 ^ 20) kernel.new.memory.frames.meters }
+    ensures landed { kernel.new.memory.frames.landed ≡ kernel.old.memory.frames.landed }
     ensures cause { HasCause (S.view store.old).faults (S.view store.new).faults result }
 {
     places_suffice();
