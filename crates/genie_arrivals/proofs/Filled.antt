@@ -92,12 +92,12 @@ use Rattle.genie_arrivals.proofs.Zeros.{AreZeros, zeros_dropped, zeros_each, zer
 abbrev pub refilled : List ℕ → flat.Region → flat.Region
 refilled bytes q = record q { bytes = overlaid 0 bytes (replicate (length q.bytes) 0) }
 
-zeros_are : (xs : List ℕ) → AreZeros xs → xs ≡ replicate (length xs) 0
+pub zeros_are : (xs : List ℕ) → AreZeros xs → xs ≡ replicate (length xs) 0
 zeros_are [] h = refl
 zeros_are (x ∷ xs) h = ap₂ ◌∷◌ h.0 (zeros_are xs h.1)
 
 -- as long as each other, page by page
-same_lengths : (s t : ℕ → List ℕ) (xs : List ℕ) → ((i : ℕ) → length (s i) ≡ length (t i)) → length (flat_map s xs) ≡ length (flat_map t xs)
+pub same_lengths : (s t : ℕ → List ℕ) (xs : List ℕ) → ((i : ℕ) → length (s i) ≡ length (t i)) → length (flat_map s xs) ≡ length (flat_map t xs)
 same_lengths s t [] h = refl
 same_lengths s t (x ∷ xs) h = length-append (s x) (flat_map s xs) ∙ ap₂ ◌+◌ (h x) (same_lengths s t xs h) ∙ sym (length-append (t x) (flat_map t xs))
 
@@ -116,11 +116,11 @@ process_twice : (n : ℕ) (f g : flat.Region → flat.Region) → ((q : flat.Reg
 process_twice n f g same None = refl
 process_twice n f g same (Some p) = ap (λ rs. Some (record p { regions = rs })) (changed_twice n f g same p.regions)
 
-processes_twice : (n : ℕ) (f g : flat.Region → flat.Region) → ((q : flat.Region) → (f q).number ≡ q.number) → (ps : List (Option flat.Process)) → map (change_process (changed_in n g)) (map (change_process (changed_in n f)) ps) ≡ map (change_process (changed_in n (λ q. g (f q)))) ps
+pub processes_twice : (n : ℕ) (f g : flat.Region → flat.Region) → ((q : flat.Region) → (f q).number ≡ q.number) → (ps : List (Option flat.Process)) → map (change_process (changed_in n g)) (map (change_process (changed_in n f)) ps) ≡ map (change_process (changed_in n (λ q. g (f q)))) ps
 processes_twice n f g same [] = refl
 processes_twice n f g same (p ∷ ps) = ap₂ ◌∷◌ (process_twice n f g same p) (processes_twice n f g same ps)
 
-owner_on : (a b c : Owner) → KeepsOwner a b → KeepsOwner b c → KeepsOwner a c
+pub owner_on : (a b c : Owner) → KeepsOwner a b → KeepsOwner b c → KeepsOwner a c
 owner_on a b c x y = record {
   owner = ⊎_elim (λ same. ⊎_elim (λ was. inl (same ∙ was)) (λ left. inr (same ∙ left)) x.owner) (λ left. inr left) y.owner;
   unfreed = y.unfreed;
@@ -136,7 +136,7 @@ module _ (k : Kernel) (g : IsGood k) (r : Region) (has : Has r (owned_regions k.
         ap (λ z. record (region_view s q) { bytes = z }) (bytes_alike d s q.object.0 (range_with_len 0 q.pages) (λ i. others q.object.0 i apart))
   ] refl
 
-  state_changed : (rests sents : ℕ → List ℕ) → state_of k (record { seen = record { entry_bytes = d; kept_bytes = kept }; rests = rests; sents = sents }) ≡ change_region (state_of k (record { seen = record { entry_bytes = s; kept_bytes = kept }; rests = rests; sents = sents })) r.id.0 f
+  pub state_changed : (rests sents : ℕ → List ℕ) → state_of k (record { seen = record { entry_bytes = d; kept_bytes = kept }; rests = rests; sents = sents }) ≡ change_region (state_of k (record { seen = record { entry_bytes = s; kept_bytes = kept }; rests = rests; sents = sents })) r.id.0 f
   state_changed rests sents =
       let processes = processes_put s d r.id.0 f k.spaces.processes k.queues each in
       (λ i. record (state_of k (record { seen = record { entry_bytes = s; kept_bytes = kept }; rests = rests; sents = sents })) { processes = processes i })

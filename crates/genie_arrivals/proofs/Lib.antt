@@ -12,6 +12,8 @@ mod PooledEnd
 mod PooledShare
 mod PooledCases
 mod PooledLive
+mod BlankPages
+mod PooledMove
 mod PooledOwn
 mod PooledAim
 mod Blank

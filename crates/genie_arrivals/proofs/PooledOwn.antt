@@ -33,7 +33,7 @@ names_is p e h = by_page e.page refl
         elim (eqb_tells q.0 p) [ inl y ↦ (q, w, y.1) | inr y ↦ let bad : false ≡ true = sym y.0 ∙ t in cc ]
 
 -- a page of an entry's own stays so under a call that doesn't speak of the entry
-private_kept : (spoken : ℕ → ℕ → Bool) (old new : Memory) (o j : ℕ) → IsSound old → spoken o j ≡ false → Touches spoken old new → IsPrivate old.frames.counts old.pages.pages (entry_at old.objects o j).page → IsPrivate new.frames.counts new.pages.pages (entry_at new.objects o j).page
+pub private_kept : (spoken : ℕ → ℕ → Bool) (old new : Memory) (o j : ℕ) → IsSound old → spoken o j ≡ false → Touches spoken old new → IsPrivate old.frames.counts old.pages.pages (entry_at old.objects o j).page → IsPrivate new.frames.counts new.pages.pages (entry_at new.objects o j).page
 private_kept spoken old new o j s out x p =
     let outside : IsOutside spoken old p.number.0 = record {
       there = omega (arith, p.alone);
@@ -58,7 +58,7 @@ wider o i k n a b l e = grind (arith, rules, l, e)
 last_entry : (o i k n a b : ℕ) → k < n → is_in_range o i n a b ≡ false → is_entry o (i + k) a b ≡ false
 last_entry o i k n a b l e = grind (arith, rules, l, e)
 
-other_entry : (o a b : ℕ) → a ≢ b → is_entry o b o a ≡ false
+pub other_entry : (o a b : ℕ) → a ≢ b → is_entry o b o a ≡ false
 other_entry o a b n = grind (arith, rules, n)
 
 -- the pages that were made its own so far

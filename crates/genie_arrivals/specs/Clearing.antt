@@ -1,5 +1,6 @@
 -- The object of a region that is held for a move input.
-use Rattle.std.specs.Prelude.{◌≡◌, ℕ, ◌<◌, false, List, length}
+use Rattle.std.specs.Prelude.{◌≡◌, ℕ, ◌<◌, ◌≤◌, false, List, length, count_by}
+use Rattle.genie_frame.specs.FrameTable.{is_free}
 use Rattle.genie_object.specs.declared.memory.Memory.{Memory}
 use Rattle.genie_object.specs.declared.objects.Entry.{Entry}
 use Rattle.genie_object.specs.Leaving.{Empties, IsEmpty, is_object}
@@ -9,12 +10,13 @@ use Rattle.genie_object.specs.Sound.{times_named}
 use Rattle.genie_object.specs.Touching.{KeepsLoans, Narrows}
 use Rattle.genie_arrivals.specs.Stored.{StoresBuffer}
 
--- no entry of the object names a page any more, and all loans are kept
+-- no entry of the object names a page any more, all loans are kept, and no frame that was free isn't
 pub record ClearsObject (old new : Memory) (o : ℕ) : Type 0 where
   pub empties : Empties (is_object o) old new
   pub keeps : KeepsLoans old new
   pub empty : (i : ℕ) → IsEmpty new o i
   pub shows : (slots : ℕ → List ℕ) → (seen new slots).kept_bytes ≡ (seen old slots).kept_bytes
+  pub free : count_by is_free old.frames.owners ≤ count_by is_free new.frames.owners
 
 -- each entry names the page that it named and permits nothing new, and no object gets another size
 pub record NarrowsAll (old new : List (List Entry)) : Type 0 where

@@ -1,5 +1,6 @@
 pub mod Owners
 pub mod Replies
+pub mod Blanks
 pub mod Cases
 pub mod Backing
 pub mod Ends

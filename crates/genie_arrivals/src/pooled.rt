@@ -72,8 +72,8 @@ pub(crate) fn copy_pending(kernel: &mut Kernel, id: TransferId, range: &Range)
     }
 }
 
-// The range of the region that a weak input names to which its bytes go, or `None` where no process has it.
-fn region_range(kernel: &Kernel, id: TransferId) -> Option<Range>
+/// The range of the region that an input names to which its bytes go, or `None` where no process has it.
+pub(crate) fn region_range(kernel: &Kernel, id: TransferId) -> Option<Range>
     requires { IsSome (find (has_number id.0) kernel.now.transfers) }
     ensures some { IfSome result (GoesTo kernel.now id.0) }
     ensures none { result ≡ None → IfSome (find (has_number id.0) kernel.now.transfers) (λ t. is_there (owned_regions kernel.now.spaces.processes) t ≡ false) }

@@ -1,0 +1,38 @@
+-- The object of a region that is held for a move input, with pages of zeros of its own.
+use Rattle.std.specs.Prelude.{◌≡◌, ◌≢◌, ℕ, ◌+◌, ◌≤◌, false, List, count_by, replicate}
+use Rattle.genie_frame.specs.FrameTable.{is_free}
+use Rattle.genie_object.specs.declared.memory.Memory.{Memory}
+use Rattle.genie_object.specs.Leaving.{is_object}
+use Rattle.genie_object.specs.Memory.{seen}
+use Rattle.genie_object.specs.Objects.{entry_at}
+use Rattle.genie_object.specs.Costs.{AreBelow}
+use Rattle.genie_object.specs.Pages.{is_there}
+use Rattle.genie_object.specs.Sound.{IsPrivate, IsSound}
+use Rattle.genie_object.specs.Touching.{KeepsLoans, Touches, is_entry}
+use Rattle.genie_arrivals.specs.PooledRoom.{ArePrivate}
+
+-- the object shows zeros, its first n entries have a page of their own each, and no entry of it permits writing; nothing else
+-- of what is seen has changed, and no loan
+pub record BlanksObject (old new : Memory) (o n : ℕ) : Type 0 where
+  pub sound : IsSound new
+  pub keeps : KeepsLoans old new
+  pub touches : Touches (is_object o) old new
+  pub counts : new.frames.counts ≡ old.frames.counts
+  pub own : ArePrivate new o 0 n
+  pub shut : (i : ℕ) → (entry_at new.objects o i).writable ≡ false
+  pub zeros : (slots : ℕ → List ℕ) (i : ℕ) → (seen new slots).entry_bytes o i ≡ replicate old.frames.page 0
+  pub others : (slots : ℕ → List ℕ) (a b : ℕ) → a ≢ o → (seen new slots).entry_bytes a b ≡ (seen old slots).entry_bytes a b
+  pub kept : (slots : ℕ → List ℕ) → (seen new slots).kept_bytes ≡ (seen old slots).kept_bytes
+
+-- the entry, which was empty, has a page of zeros of its own, and permits nothing; what is seen stays
+pub record BlanksPage (old new : Memory) (o i : ℕ) : Type 0 where
+  pub sound : IsSound new
+  pub keeps : KeepsLoans old new
+  pub touches : Touches (is_entry o i) old new
+  pub counts : new.frames.counts ≡ old.frames.counts
+  pub shows : (slots : ℕ → List ℕ) → seen new slots ≡ seen old slots
+  pub own : IsPrivate new.frames.counts new.pages.pages (entry_at new.objects o i).page
+  pub shut : (entry_at new.objects o i).writable ≡ false
+  pub free : count_by is_free old.frames.owners ≤ count_by is_free new.frames.owners + 1
+  pub pages : count_by is_there new.pages.pages ≤ count_by is_there old.pages.pages + 1
+  pub below : (b : ℕ) → AreBelow b old.frames.meters → AreBelow (b + 4097) new.frames.meters
