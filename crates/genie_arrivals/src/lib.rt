@@ -12,6 +12,7 @@ mod live;
 pub mod outboard;
 mod outboard_copy;
 pub mod outboard_move;
+pub mod outboard_copy;
 mod owned;
 pub mod pooled;
 pub mod pooled_copy;

@@ -18,7 +18,7 @@ use Rattle.genie_kernel.specs.Handles.{handles, handles_of, listed}
 use Rattle.genie_kernel.specs.Told.{input_at, output_at}
 use Rattle.genie_kernel.specs.View.{outline}
 
-configured : (ds : List (Option DeviceConfig)) (d : ℕ) → entry (map (option_map device_config) ds) d ≡ option_map device_config (entry ds d)
+pub configured : (ds : List (Option DeviceConfig)) (d : ℕ) → entry (map (option_map device_config) ds) d ≡ option_map device_config (entry ds d)
 configured [] d = refl
 configured (x ∷ ds) zero = refl
 configured (x ∷ ds) (suc d) = configured ds d

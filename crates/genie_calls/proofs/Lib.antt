@@ -3,3 +3,4 @@ pub mod Pools
 pub mod Closed
 pub mod Serving
 pub mod Handles
+pub mod OfKinds

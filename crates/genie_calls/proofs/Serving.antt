@@ -6,6 +6,7 @@ use Rattle.std.specs.Option.{option_map}
 use Rattle.genie_base.specs.Events.{mark_of}
 use Rattle.genie_base.specs.declared.config.Config.{Config}
 use Rattle.genie_base.specs.declared.event.Event.{Event}
+use Rattle.genie_base.specs.declared.event.Event.TheVariants.{Finish}
 use Rattle.genie_base.specs.declared.refusal.Refusal.{Refusal}
 use Rattle.genie_base.specs.declared.reply.Mark.{Mark}
 use Rattle.genie_base.specs.declared.reply.Mark.TheVariants.{NoFault}
@@ -31,6 +32,8 @@ use Rattle.genie_kernel.specs.Lemmas.Keeping.{calls_kept}
 use Rattle.genie_kernel.specs.Lemmas.OpenHandles.{others_kept}
 use Rattle.genie_kernel.specs.Lemmas.Stepping.{alone_told}
 use Rattle.genie_changes.specs.Paged.{IsPaged, PagedIsTold, StepsPaged}
+use Rattle.genie_arrivals.specs.Failing.{Serves}
+use Rattle.genie_arrivals.specs.Paging.{EndsPaged}
 use Rattle.genie_calls.specs.Serving.{Outside, Nothing, TheStore, TheHandle, Served, ServedAlone, ServedByHost, ServedByStore, Touches, touched_by}
 
 only_refl : (h : ℕ) (v : HostView) → OnlyHandle h v v
@@ -113,3 +116,21 @@ host_served old new e h before after r outside named g good kept config only ope
   handles = opened;
   others = others_kept old.config h before after only named;
 }
+
+-- of the event as it was matched
+module _ (old new : Kernel) (e f : Event) (r : Reply) (is : e ≡ f) where
+  pub as_alone : (host : HostView) (v : StoreView) → HasHandles old.config host → IsSized old.memory v → IsPaged v → ServedAlone old f new r → Served old new e host host v v r
+  as_alone host v handles sized paged served = subst (λ x. Served old new x host host v v r) (sym is) (served host v handles sized paged)
+
+  pub as_store : (host : HostView) (v w : StoreView) → HasHandles old.config host → ServedByStore old f new v w r → Served old new e host host v w r
+  as_store host v w handles served = subst (λ x. Served old new x host host v w r) (sym is) (served host handles)
+
+  pub as_host : (before after : HostView) (v : StoreView) → IsSized old.memory v → IsPaged v → ServedByHost old f new before after r → Served old new e before after v v r
+  as_host before after v sized paged served = subst (λ x. Served old new x before after v v r) (sym is) (served v sized paged)
+
+-- the end of an input that touches nothing outside, and one that may touch the store
+pub paged_by_store : PagedIsTold → (old new : Kernel) (n : ℕ) (r : Reply) (v : StoreView) → IsGood old → refuse (outline old) (Finish n) ≡ None → IsSized old.memory v → IsPaged v → EndsPaged old n new r → ServedByStore old (Finish n) new v v r
+paged_by_store law old new n r v g h sized paged ends = λ host handles. served_alone old new (Finish n) r host v g ends.good ends.kept ends.config ends.unfailed handles sized (law old new (Finish n) r host v h ends.config sized paged ends.step)
+
+pub ends_by_store : (old new : Kernel) (n : ℕ) (r : Reply) (v w : StoreView) → Serves old (Finish n) new v w r → ServedByStore old (Finish n) new v w r
+ends_by_store old new n r v w ends = store_served old new (Finish n) v w r refl ends.good ends.sized ends.kept ends.config ends.step ends.cause

@@ -1,3 +1,4 @@
 pub mod Closing
 pub mod CloseLaws
 pub mod Serving
+pub mod Kinds

@@ -1,5 +1,5 @@
 //! Transfers that end.
-ghost use Rattle.std.specs.Prelude.{◌≡◌, ◌^◌, None, find};
+ghost use Rattle.std.specs.Prelude.{◌≡◌, ◌^◌, ◌<◌, None, find};
 ghost use Rattle.genie_base.specs.declared.event.Event.TheVariants as event;
 ghost use Rattle.genie_object.specs.Costs.{AreBelow};
 ghost use Rattle.genie_object.specs.Sound.{IsSized};
@@ -9,9 +9,12 @@ ghost use Rattle.genie_kernel.specs.Good.{IsGood};
 ghost use Rattle.genie_kernel.specs.View.{outline};
 ghost use Rattle.genie_endings.specs.Ends.{IsOutput};
 ghost use Rattle.genie_arrivals.specs.Cases.{IsOnEarly};
+ghost use Rattle.genie_calls.specs.Kinds.{IsNoLateMove};
 ghost use Rattle.genie_calls.specs.Serving.{ServedAlone, ServedByStore};
 
-use genie_base::{Reply, TransferId};
+use crate::kinds::{is_output, kind_of};
+use crate::late::{finish_outboard, finish_pooled};
+use genie_base::{Kind, Reply, TransferId};
 use genie_kernel::Kernel;
 use genie_store::Store;
 
@@ -45,4 +48,24 @@ pub(crate) fn finish_early<S: Store>(kernel: &mut Kernel, store: &mut S, id: u32
     ensures { ServedByStore kernel.old (event.Finish id) kernel.new (S.view store.old) (S.view store.new) result }
 {
     genie_arrivals::finish::finish_input_early(kernel, store, TransferId(id))
+}
+
+// A transfer ends, but for a move input on a pooled or an outboard device.
+pub(crate) fn finish<S: Store>(kernel: &mut Kernel, store: &mut S, id: u32) -> Reply<'static>
+    requires good { IsGood kernel.old }
+    requires sized { IsSized kernel.old.memory (S.view store.old) }
+    requires meters { AreBelow (2 ^ 63) kernel.old.memory.frames.meters }
+    requires landed { kernel.old.memory.frames.landed < 2 ^ 63 }
+    requires accepted { refuse (outline kernel.old) (event.Finish id) ≡ None }
+    requires unmoved { IsNoLateMove kernel.old id }
+    ensures { ServedByStore kernel.old (event.Finish id) kernel.new (S.view store.old) (S.view store.new) result }
+{
+    if is_output(kernel, id) {
+        return finish_output(kernel, store, id);
+    }
+    match kind_of(kernel, id) {
+        Kind::Early => finish_early(kernel, store, id),
+        Kind::Pooled => finish_pooled(kernel, store, id),
+        Kind::Outboard => finish_outboard(kernel, store, id),
+    }
 }

@@ -1,0 +1,41 @@
+use Rattle.std.proofs.Common.{◌≡◌, refl, subst}
+use Rattle.std.specs.Prelude.{IfSome, find}
+use Rattle.genie_base.specs.Transfers.{class_of}
+use Rattle.genie_base.specs.declared.config.Kind.TheVariants.{Outboard}
+use Rattle.genie_base.specs.declared.semantics.Class.{Class}
+use Rattle.genie_base.specs.declared.semantics.Class.TheVariants.{Copy, Share, WeakMove}
+use Rattle.genie_kernel.specs.declared.transfer.Transfer.{Transfer}
+use Rattle.genie_kernel.specs.Calls.{has_number}
+use Rattle.genie_calls.proofs.OfKinds.{ends_outboard, finish_pending, no_move}
+use Rattle.genie_calls.proofs.Serving.{ends_by_store, paged_by_store}
+use Rattle.genie_calls.proofs.late.finish_outboard.Goals as goal
+
+pub class_at-requires : goal.class_at-requires
+class_at-requires g c = finish_pending c.args.kernel.now c.args.id c.requires.accepted
+
+pub finish_copy_outboard-requires-clause-case : goal.finish_copy_outboard-requires-clause-case
+finish_copy_outboard-requires-clause-case g c =
+    let k = c.args.kernel.now in
+    ends_outboard k c.args.id Copy c.requires.case (subst (λ (x : Class). IfSome (find (has_number c.args.id) k.transfers) (λ (t : Transfer). class_of t.sem ≡ x)) c.in-Copy.is c.class_at.ensures)
+
+pub returns-in-Copy : goal.returns-in-Copy
+returns-in-Copy g c = ends_by_store c.args.kernel.now c.finish_copy_outboard.new.kernel c.args.id c.finish_copy_outboard.result (g.S.Store.view c.args.store.now) (g.S.Store.view c.finish_copy_outboard.new.store) c.finish_copy_outboard.ensures
+
+pub finish_share_outboard-requires-clause-case : goal.finish_share_outboard-requires-clause-case
+finish_share_outboard-requires-clause-case g c =
+    let k = c.args.kernel.now in
+    ends_outboard k c.args.id Share c.requires.case (subst (λ (x : Class). IfSome (find (has_number c.args.id) k.transfers) (λ (t : Transfer). class_of t.sem ≡ x)) c.in-Share.is c.class_at.ensures)
+
+pub returns-in-Share : goal.returns-in-Share
+returns-in-Share g c = paged_by_store c.paged_events_are_told.ensures c.args.kernel.now c.finish_share_outboard.new.kernel c.args.id c.finish_share_outboard.result (g.S.Store.view c.args.store.now) c.requires.good c.requires.accepted c.requires.sized (g.met.S.Store.paged c.args.store.now) c.finish_share_outboard.ensures.ends
+
+pub unreachable-requires : goal.unreachable-requires
+unreachable-requires g c = no_move c.args.kernel.now c.args.id Outboard refl c.requires.accepted c.requires.case c.requires.unmoved (subst (λ (x : Class). IfSome (find (has_number c.args.id) c.args.kernel.now.transfers) (λ (t : Transfer). class_of t.sem ≡ x)) c.in-Move.is c.class_at.ensures)
+
+pub finish_weak_move_outboard-requires-clause-case : goal.finish_weak_move_outboard-requires-clause-case
+finish_weak_move_outboard-requires-clause-case g c =
+    let k = c.args.kernel.now in
+    ends_outboard k c.args.id WeakMove c.requires.case (subst (λ (x : Class). IfSome (find (has_number c.args.id) k.transfers) (λ (t : Transfer). class_of t.sem ≡ x)) c.in-WeakMove.is c.class_at.ensures)
+
+pub returns-in-WeakMove : goal.returns-in-WeakMove
+returns-in-WeakMove g c = paged_by_store c.paged_events_are_told.ensures c.args.kernel.now c.finish_weak_move_outboard.new.kernel c.args.id c.finish_weak_move_outboard.result (g.S.Store.view c.args.store.now) c.requires.good c.requires.accepted c.requires.sized (g.met.S.Store.paged c.args.store.now) c.finish_weak_move_outboard.ensures.ends
