@@ -35,7 +35,7 @@ use Rattle.genie_arrivals.specs.Outboard.{IsLateOutboard}
 use Rattle.genie_arrivals.specs.Pooled.{IsPooledInput, IsPooledOf}
 use Rattle.genie_arrivals.specs.Pooled as arrivals
 use Rattle.genie_pooling.specs.Pooled.{is_pooled_device, is_pooled_kind}
-use Rattle.genie_calls.specs.Kinds.{EndsOn, HasKind, IsInputOn, IsLateMove, IsNoLateMove, IsOfKind}
+use Rattle.genie_calls.specs.Kinds.{EndsOn, HasKind, IsInputOn, IsPooledMove, IsNoPooledMove, IsOfKind}
 use Rattle.genie_calls.proofs.Handles.{configured}
 
 -- a device of the table has one of its places
@@ -138,9 +138,5 @@ three : {P Q R : Transfer → Type 0} → ((t : Transfer) → P t → Q t → R 
 three f None is p q r = absurd (cc)
 three f (Some t) is p q r = f t p q r
 
-kind_late : (v : Option DeviceView) (kind : Kind) → is_early kind ≡ false → IsOfKind kind v → is_early_device v ≡ false
-kind_late None kind late h = absurd h
-kind_late (Some v) kind late h = ap is_early h ∙ late
-
-pub no_move : (k : Kernel) (n : ℕ) (kind : Kind) → is_early kind ≡ false → refuse (outline k) (Finish n) ≡ None → EndsOn kind k n → IsNoLateMove k n → IfSome (find (has_number n) k.transfers) (λ (t : Transfer). class_of t.sem ≡ Move) → ⊥
-no_move k n kind late accepted on none is = three (λ (t : Transfer) (o : IsInputOn kind k.devices t) (h : IsLateMove k.devices t → ⊥) e. h (record { inward = o.inward; class_is = e; late = kind_late (entry k.devices t.dev) kind late o.device })) (find (has_number n) k.transfers) (finish_pending k n accepted) on none is
+pub no_move : (k : Kernel) (n : ℕ) → refuse (outline k) (Finish n) ≡ None → EndsOn Pooled k n → IsNoPooledMove k n → IfSome (find (has_number n) k.transfers) (λ (t : Transfer). class_of t.sem ≡ Move) → ⊥
+no_move k n accepted on none is = three (λ (t : Transfer) (o : IsInputOn Pooled k.devices t) (h : IsPooledMove k.devices t → ⊥) e. h (record { inward = o.inward; class_is = e; pooled = o.device })) (find (has_number n) k.transfers) (finish_pending k n accepted) on none is

@@ -1,8 +1,9 @@
 -- Devices by their kind, and the transfers that end by direction and kind of device.
-use Rattle.std.specs.Prelude.{◌≡◌, ℕ, List, false, find, Option, None, Some, IfSome, ⊤}
+use Rattle.std.specs.Prelude.{◌≡◌, ℕ, List, find, Option, None, Some, IfSome, ⊤}
 use Rattle.genie_base.specs.Transfers.{class_of}
 use Rattle.genie_base.specs.declared.config.DeviceConfig.{DeviceConfig}
 use Rattle.genie_base.specs.declared.config.Kind.{Kind}
+use Rattle.genie_base.specs.declared.config.Kind.TheVariants.{Pooled}
 use Rattle.genie_base.specs.declared.event.Event.{Event}
 use Rattle.genie_base.specs.declared.event.Event.TheVariants.{Finish}
 use Rattle.genie_base.specs.declared.semantics.Class.TheVariants.{Move}
@@ -12,7 +13,6 @@ use Rattle.genie_model.specs.Tables.{entry}
 use Rattle.genie_kernel.specs.declared.kernel.Kernel.{Kernel}
 use Rattle.genie_kernel.specs.declared.transfer.Transfer.{Transfer}
 use Rattle.genie_kernel.specs.Calls.{has_number}
-use Rattle.genie_kernel.specs.Planned.{is_early_device}
 
 -- the configuration has a device of this kind there
 abbrev pub HasKind : Kind → Option DeviceConfig → Type 0
@@ -33,17 +33,17 @@ pub record IsInputOn (kind : Kind) (devices : List (Option DeviceView)) (t : Tra
 abbrev pub EndsOn : Kind → Kernel → ℕ → Type 0
 EndsOn kind k n = IfSome (find (has_number n) k.transfers) (IsInputOn kind k.devices)
 
--- a move input on a device that isn't early
-pub record IsLateMove (devices : List (Option DeviceView)) (t : Transfer) : Type 0 where
+-- a move input on a pooled device
+pub record IsPooledMove (devices : List (Option DeviceView)) (t : Transfer) : Type 0 where
   pub inward : t.dir ≡ Inward
   pub class_is : class_of t.sem ≡ Move
-  pub late : is_early_device (entry devices t.dev) ≡ false
+  pub pooled : IsOfKind Pooled (entry devices t.dev)
 
 -- the pending transfer of this number is none
-abbrev pub IsNoLateMove : Kernel → ℕ → Type 0
-IsNoLateMove k n = IfSome (find (has_number n) k.transfers) (λ t. IsLateMove k.devices t → ⊥)
+abbrev pub IsNoPooledMove : Kernel → ℕ → Type 0
+IsNoPooledMove k n = IfSome (find (has_number n) k.transfers) (λ t. IsPooledMove k.devices t → ⊥)
 
 -- the event isn't the end of one
-abbrev pub EndsNoLateMove : Kernel → Event → Type 0
-EndsNoLateMove k (Finish n) = IsNoLateMove k n
-EndsNoLateMove k e = ⊤
+abbrev pub EndsNoPooledMove : Kernel → Event → Type 0
+EndsNoPooledMove k (Finish n) = IsNoPooledMove k n
+EndsNoPooledMove k e = ⊤

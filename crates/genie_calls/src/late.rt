@@ -7,11 +7,11 @@ ghost use Rattle.genie_object.specs.Sound.{IsSized};
 ghost use Rattle.genie_model.specs.Refusing.{refuse};
 ghost use Rattle.genie_kernel.specs.Good.{IsGood};
 ghost use Rattle.genie_kernel.specs.View.{outline};
-ghost use Rattle.genie_calls.specs.Kinds.{EndsOn, IsNoLateMove};
+ghost use Rattle.genie_calls.specs.Kinds.{EndsOn, IsNoPooledMove};
 ghost use Rattle.genie_calls.specs.Serving.{ServedByStore};
 
 use crate::kinds::class_at;
-use genie_arrivals::{outboard, outboard_copy, pooled, pooled_copy};
+use genie_arrivals::{outboard, outboard_copy, outboard_move, pooled, pooled_copy};
 use genie_base::{Class, Reply, TransferId};
 use genie_changes::settled::paged_events_are_told;
 use genie_kernel::Kernel;
@@ -24,7 +24,7 @@ pub(crate) fn finish_pooled<S: Store>(kernel: &mut Kernel, store: &mut S, id: u3
     requires meters { AreBelow (2 ^ 63) kernel.old.memory.frames.meters }
     requires accepted { refuse (outline kernel.old) (event.Finish id) ≡ None }
     requires case { EndsOn kind.Pooled kernel.old id }
-    requires unmoved { IsNoLateMove kernel.old id }
+    requires unmoved { IsNoPooledMove kernel.old id }
     ensures { ServedByStore kernel.old (event.Finish id) kernel.new (S.view store.old) (S.view store.new) result }
 {
     paged_events_are_told();
@@ -36,7 +36,7 @@ pub(crate) fn finish_pooled<S: Store>(kernel: &mut Kernel, store: &mut S, id: u3
     }
 }
 
-// An input on an outboard device ends that is no move: what waits in its memory lands.
+// An input on an outboard device ends: what waits in its memory lands.
 pub(crate) fn finish_outboard<S: Store>(
     kernel: &mut Kernel,
     store: &mut S,
@@ -48,14 +48,13 @@ pub(crate) fn finish_outboard<S: Store>(
     requires landed { kernel.old.memory.frames.landed < 2 ^ 63 }
     requires accepted { refuse (outline kernel.old) (event.Finish id) ≡ None }
     requires case { EndsOn kind.Outboard kernel.old id }
-    requires unmoved { IsNoLateMove kernel.old id }
     ensures { ServedByStore kernel.old (event.Finish id) kernel.new (S.view store.old) (S.view store.new) result }
 {
     paged_events_are_told();
     match class_at(kernel, id) {
         Class::Copy => outboard_copy::finish_copy_outboard(kernel, store, TransferId(id)),
         Class::Share => outboard::finish_share_outboard(kernel, TransferId(id)),
-        Class::Move => unreachable!(),
+        Class::Move => outboard_move::finish_move_outboard(kernel, store, TransferId(id)),
         Class::WeakMove => outboard::finish_weak_move_outboard(kernel, TransferId(id)),
     }
 }

@@ -1,7 +1,6 @@
-use Rattle.std.proofs.Common.{◌≡◌, refl, subst}
+use Rattle.std.proofs.Common.{◌≡◌, subst}
 use Rattle.std.specs.Prelude.{IfSome, find}
 use Rattle.genie_base.specs.Transfers.{class_of}
-use Rattle.genie_base.specs.declared.config.Kind.TheVariants.{Pooled}
 use Rattle.genie_base.specs.declared.semantics.Class.{Class}
 use Rattle.genie_base.specs.declared.semantics.Class.TheVariants.{Copy, Share, WeakMove}
 use Rattle.genie_kernel.specs.declared.transfer.Transfer.{Transfer}
@@ -30,7 +29,7 @@ pub returns-in-Share : goal.returns-in-Share
 returns-in-Share g c = paged_by_store c.paged_events_are_told.ensures c.args.kernel.now c.finish_share_pooled.new.kernel c.args.id c.finish_share_pooled.result (g.S.Store.view c.args.store.now) c.requires.good c.requires.accepted c.requires.sized (g.met.S.Store.paged c.args.store.now) c.finish_share_pooled.ensures
 
 pub unreachable-requires : goal.unreachable-requires
-unreachable-requires g c = no_move c.args.kernel.now c.args.id Pooled refl c.requires.accepted c.requires.case c.requires.unmoved (subst (λ (x : Class). IfSome (find (has_number c.args.id) c.args.kernel.now.transfers) (λ (t : Transfer). class_of t.sem ≡ x)) c.in-Move.is c.class_at.ensures)
+unreachable-requires g c = no_move c.args.kernel.now c.args.id c.requires.accepted c.requires.case c.requires.unmoved (subst (λ (x : Class). IfSome (find (has_number c.args.id) c.args.kernel.now.transfers) (λ (t : Transfer). class_of t.sem ≡ x)) c.in-Move.is c.class_at.ensures)
 
 pub finish_weak_move_pooled-requires-clause-case : goal.finish_weak_move_pooled-requires-clause-case
 finish_weak_move_pooled-requires-clause-case g c =
