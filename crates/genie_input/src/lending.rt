@@ -135,6 +135,7 @@ pub fn in_place<S: Store>(
     // What the call leaves alone, and what it costs: only pages that can't be written in place are copied.
     ensures keeps { KeepsLoans memory.old memory.new }
     ensures touches { Touches (is_in_range range.now.object.0 (range.now.off / memory.old.frames.page) (span memory.old.frames.page range.now.off range.now.len)) memory.old memory.new }
+    ensures landed { memory.new.frames.landed ≡ memory.old.frames.landed }
     ensures spends { let n = span memory.old.frames.page range.now.off range.now.len in Spends (writes_work memory.old range.now.object.0 (range.now.off / memory.old.frames.page) n) n 0 n memory.old.frames.meters memory.new.frames.meters }
 {
     let page = memory.frames.page();

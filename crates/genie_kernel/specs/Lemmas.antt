@@ -18,6 +18,7 @@ pub mod Processes
 pub mod Progress
 pub mod Receiving
 pub mod Removing
+pub mod Rising
 pub mod Searching
 pub mod Staying
 pub mod Stepping

@@ -20,6 +20,7 @@ pub mod Matching
 pub mod Good
 pub mod Kept
 pub mod Steps
+pub mod Rising
 pub mod Handles
 pub mod Booting
 pub mod Same

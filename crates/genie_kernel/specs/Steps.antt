@@ -36,16 +36,17 @@ abbrev pub StepsTold : Option State → Event → Option State → Reply → Typ
 StepsTold None e new reply = ⊤
 StepsTold (Some s) e new reply = (new ≡ Some (step s e (mark_of reply)).0) × (reply ≡ (step s e (mark_of reply)).1)
 
--- a device's failure is shown only where the count of faults of its handle rose, and else the count stays
+-- a device's failure is shown only where the count of faults of its handle rose, and else the count stays; a failure of
+-- the store isn't shown
 abbrev pub DeviceCause : Mark → (before : ℕ) → (now : ℕ) → Type 0
 DeviceCause NoFault before now = now ≡ before
 DeviceCause (DeviceFault n) before now = Rose before now
-DeviceCause Store before now = now ≡ before
+DeviceCause Store before now = ⊥
 
--- a failure of the store is shown only where its count rose, and else the count stays
+-- a failure of the store is shown only where its count rose, and else the count stays; a device's failure isn't shown
 abbrev pub StoreCause : Mark → (before : ℕ) → (now : ℕ) → Type 0
 StoreCause NoFault before now = now ≡ before
-StoreCause (DeviceFault n) before now = now ≡ before
+StoreCause (DeviceFault n) before now = ⊥
 StoreCause Store before now = Rose before now
 
 -- an event that the outline accepts is accepted whatever the bytes are, and what it steps to is the flat machine's step

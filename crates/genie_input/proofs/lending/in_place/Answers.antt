@@ -18,3 +18,6 @@ returns-in-Err-clause-keeps g c = (back_by input_loan Input refl _ _ _ c.lend_pa
 
 pub returns-in-Ok-clause-lies : goal.returns-in-Ok-clause-lies
 returns-in-Ok-clause-lies g c = lies_in c.args.range.now.object.0 c.args.range.now.off c.args.range.now.len c.page-page.result c.page_count-count.result _ c.lend_pages.new.loans.items c.args.memory.now c.lend_pages.new.memory c.page-page.ensures.size c.lend_pages.ensures.lent c.in-Ok.ensures.number c.page_count-count.ensures.number (omega arith) c.page_count-count.ensures.covers
+
+pub returns-in-Err-clause-landed : goal.returns-in-Err-clause-landed
+returns-in-Err-clause-landed g c = c.end_inputs.ensures.landed ∙ c.lend_pages.ensures.lent.landed
