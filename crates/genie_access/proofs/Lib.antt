@@ -8,3 +8,4 @@ mod Stored
 mod Changed
 mod Wrote
 pub mod Copied
+mod Rising

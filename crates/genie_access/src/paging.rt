@@ -9,6 +9,7 @@ ghost use Rattle.genie_object.specs.Costs.{AreBelow, Spends};
 ghost use Rattle.genie_object.specs.Sound.{IsSized};
 ghost use Rattle.genie_kernel.specs.Good.{IsGood};
 ghost use Rattle.genie_kernel.specs.Kept.{Kept};
+ghost use Rattle.genie_kernel.specs.Rising.{MetersRise};
 ghost use Rattle.genie_kernel.specs.Steps.{StepsTold, StoreCause};
 ghost use Rattle.genie_kernel.specs.View.{view};
 ghost use Rattle.genie_pageout.specs.Going.{allowed};
@@ -31,6 +32,7 @@ fn put_pages<S: Store>(kernel: &mut Kernel, store: &mut S, n: u32) -> Result<(),
     ensures cause { HasCause (S.view store.old).faults (S.view store.new).faults result }
     ensures puts { PutsPages n (allowed kernel.old.memory (objects_of kernel.old.hidden)) kernel.old.memory kernel.new.memory (reply_to result) }
     ensures meters { Spends 0 0 8192 0 kernel.old.memory.frames.meters kernel.new.memory.frames.meters }
+    ensures rises { MetersRise (2 ^ 36) kernel.old.memory.frames kernel.new.memory.frames }
 {
     places_suffice();
     match genie_pageout::pageout(
@@ -73,6 +75,7 @@ pub fn pageout<S: Store>(kernel: &mut Kernel, store: &mut S, n: u32) -> Reply<'s
     // As many pages as were asked for go to the store, or all that may. No byte is moved by the processor.
     ensures puts { PutsPages n (allowed kernel.old.memory (objects_of kernel.old.hidden)) kernel.old.memory kernel.new.memory result }
     ensures meters { Spends 0 0 8192 0 kernel.old.memory.frames.meters kernel.new.memory.frames.meters }
+    ensures rises { MetersRise (2 ^ 36) kernel.old.memory.frames kernel.new.memory.frames }
     ensures copying { KeepsToBound kernel.old (event.Pageout n) kernel.new result }
 {
     memory_calls_keep_good();

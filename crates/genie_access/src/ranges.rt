@@ -7,6 +7,7 @@ ghost use Rattle.genie_object.specs.Costs.{AreBelow, is_untouched};
 ghost use Rattle.genie_object.specs.Objects.{object_at, entry_at};
 ghost use Rattle.genie_object.specs.Pages.{is_there};
 ghost use Rattle.genie_object.specs.Sound.{IsSound, IsSized};
+ghost use Rattle.genie_kernel.specs.Rising.{MetersRise};
 ghost use Rattle.genie_copying.specs.Ranges.{count_in, pages_at};
 ghost use Rattle.genie_copying.specs.Spending.{CopiesAtMost};
 ghost use Rattle.genie_access.specs.Reading.{ReadsObject, is_of_object};
@@ -39,6 +40,7 @@ pub fn read_range<S: Store>(
     ensures cause { HasCause (S.view store.old).faults (S.view store.new).faults result }
     ensures narrow { (i : ℕ) → (entry_at memory.new.objects object.0 i).writable ≡ true → (entry_at memory.old.objects object.0 i).writable ≡ true }
     ensures bytes { OnOk result (ReadsObject memory.old (S.view store.old) object.0 off n into.old into.new) }
+    ensures rises { MetersRise (2 ^ 15) memory.old.frames memory.new.frames }
     ensures copies { CopiesAtMost (n + memory.old.frames.page * count_in is_untouched memory.old (pages_at memory.old.frames.page object.0 off n)) memory.old memory.new }
 {
     let page = memory.frames.page();

@@ -7,6 +7,7 @@ ghost use Rattle.genie_object.specs.Costs.{AreBelow};
 ghost use Rattle.genie_object.specs.Objects.{object_at};
 ghost use Rattle.genie_object.specs.Pages.{is_there};
 ghost use Rattle.genie_object.specs.Sound.{IsSound, IsSized};
+ghost use Rattle.genie_kernel.specs.Rising.{MetersRise};
 ghost use Rattle.genie_copying.specs.Kinds.{is_fixed};
 ghost use Rattle.genie_copying.specs.Ranges.{count_in, pages_at};
 ghost use Rattle.genie_copying.specs.Spending.{CopiesAtMost};
@@ -40,6 +41,7 @@ pub fn write_range<S: Store>(
     ensures stored { OnOk result (WritesObject memory.old memory.new (S.view store.old) (S.view store.new) object.0 off bytes.now) }
     ensures failed { OnErr result (OnlyMoves (is_of_object object.0) memory.old memory.new (S.view store.old) (S.view store.new)) }
     ensures cause { HasCause (S.view store.old).faults (S.view store.new).faults result }
+    ensures rises { MetersRise (2 ^ 16) memory.old.frames memory.new.frames }
     ensures copies { CopiesAtMost (length bytes.now + memory.old.frames.page * count_in is_fixed memory.old (pages_at memory.old.frames.page object.0 off (length bytes.now))) memory.old memory.new }
 {
     let page = memory.frames.page();

@@ -9,6 +9,7 @@ ghost use Rattle.genie_object.specs.Sound.{IsSized};
 ghost use Rattle.genie_model.specs.Refusing.{refuse};
 ghost use Rattle.genie_kernel.specs.Good.{IsGood};
 ghost use Rattle.genie_kernel.specs.Kept.{Kept};
+ghost use Rattle.genie_kernel.specs.Rising.{MetersRise};
 ghost use Rattle.genie_kernel.specs.Steps.{StepsTold, StoreCause};
 ghost use Rattle.genie_kernel.specs.View.{view, outline};
 ghost use Rattle.genie_copying.specs.Bounds.{event_bound, KeepsToBound};
@@ -40,6 +41,7 @@ fn write_from<S: Store>(
     ensures stored { OnOk result (WritesAt kernel.old kernel.new.memory (S.view store.old) (S.view store.new) pid addr bytes.now) }
     ensures failed { OnErr result (KeepsSeen kernel.old kernel.new.memory (S.view store.old) (S.view store.new)) }
     ensures cause { HasCause (S.view store.old).faults (S.view store.new).faults result }
+    ensures rises { MetersRise (2 ^ 36) kernel.old.memory.frames kernel.new.memory.frames }
     ensures copies { CopiesAtMost (event_bound kernel.old (event.Write pid addr bytes.now)) kernel.old.memory kernel.new.memory }
 {
     let (object, off) = find_place(kernel, pid, addr, bytes.len() as u32);
@@ -78,6 +80,7 @@ pub fn write<S: Store>(
 
     // Only the bytes written are moved, and pages that can't be written in place are copied or zeroed.
     ensures copying { KeepsToBound kernel.old (event.Write pid addr bytes.now) kernel.new result }
+    ensures rises { MetersRise (2 ^ 36) kernel.old.memory.frames kernel.new.memory.frames }
 {
     memory_calls_keep_good();
     view_is_tidy();

@@ -11,3 +11,4 @@ pub mod Shared
 pub mod Given
 pub mod Gone
 pub mod Rows
+pub mod Rising

@@ -15,6 +15,7 @@ ghost use Rattle.genie_plan.specs.Plans.{CanSend, output_frames, times};
 ghost use Rattle.genie_tcow.specs.Lending.{HasLent, IsTakenBack};
 ghost use Rattle.genie_tcow.specs.Costs.{sends_work};
 ghost use Rattle.genie_tcow.specs.Ranges.{CanPrepare, IsPlanOf, SendsRange, first_page, is_of_range, pages_of};
+ghost use Rattle.genie_kernel.specs.Rising.{MetersRise};
 ghost use Rattle.genie_copying.specs.Spending.{CopiesAtMost};
 ghost use Rattle.genie_outputs.specs.Answering.{IsReady};
 ghost use Rattle.genie_outputs.specs.Sharing.{IsShared, WiredUnless};
@@ -51,6 +52,7 @@ pub(crate) fn lend_strong<S: Store>(
     ensures bytes { IfOk result (λ plan. SendsRange memory.old memory.new (S.view store.old) range.now plan.loans.items plan.first plan.len) }
     ensures lent { IfOk result (λ plan. HasLent kind.Strong id.0 (is_of_range memory.old.frames.page range.now) (output_loans plan.loans.items) memory.old memory.new (S.view store.old) (S.view store.new)) }
     ensures failed { OnErr result (IsTakenBack (is_of_range memory.old.frames.page range.now) memory.old memory.new (S.view store.old) (S.view store.new)) }
+    ensures rises { MetersRise (2 ^ 20) memory.old.frames memory.new.frames }
     ensures copies { CopiesAtMost (sends_work memory.old range.now.object.0 (first_page memory.old.frames.page range.now) (pages_of memory.old.frames.page range.now)) memory.old memory.new }
     ensures shut { writable ≡ false → (i : ℕ) → (entry_at memory.new.objects range.now.object.0 i).writable ≡ false }
 {
@@ -85,6 +87,7 @@ fn lend_weak<S: Store>(
     ensures frames { IfOk result (λ plan. AreOfEntries memory.new range.now.object.0 (first_page memory.old.frames.page range.now) (output_frames plan.loans.items)) }
     ensures lent { IfOk result (λ plan. HasLent kind.Weak 0 (is_of_range memory.old.frames.page range.now) (output_loans plan.loans.items) memory.old memory.new (S.view store.old) (S.view store.new)) }
     ensures failed { OnErr result (IsTakenBack (is_of_range memory.old.frames.page range.now) memory.old memory.new (S.view store.old) (S.view store.new)) }
+    ensures rises { MetersRise (2 ^ 20) memory.old.frames memory.new.frames }
     ensures copies { CopiesAtMost (writes_work memory.old range.now.object.0 (first_page memory.old.frames.page range.now) (pages_of memory.old.frames.page range.now)) memory.old memory.new }
     ensures shut { writable ≡ false → (i : ℕ) → (entry_at memory.new.objects range.now.object.0 i).writable ≡ false }
 {
@@ -126,6 +129,7 @@ pub(crate) fn share<S: Store>(
     ensures shared { IfOk result (λ plan. IsShared kernel.old kernel.new.memory call.now region.now plan (S.view store.old) (S.view store.new)) }
     ensures failed { OnErr result (IsMoved kernel.old kernel.new (S.view store.old) (S.view store.new)) }
     ensures cause { HasCause (S.view store.old).faults (S.view store.new).faults result }
+    ensures rises { MetersRise (2 ^ 20) kernel.old.memory.frames kernel.new.memory.frames }
     ensures copies { CopiesAtMost (writes_work kernel.old.memory range.now.object.0 (first_page kernel.old.memory.frames.page range.now) (pages_of kernel.old.memory.frames.page range.now)) kernel.old.memory kernel.new.memory }
 {
     output_laws();

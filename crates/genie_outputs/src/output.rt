@@ -8,6 +8,7 @@ ghost use Rattle.genie_object.specs.Sound.{IsSized};
 ghost use Rattle.genie_model.specs.Refusing.{refuse};
 ghost use Rattle.genie_kernel.specs.Good.{IsGood};
 ghost use Rattle.genie_kernel.specs.Kept.{Kept};
+ghost use Rattle.genie_kernel.specs.Rising.{MetersRise};
 ghost use Rattle.genie_kernel.specs.Steps.{StepsTold, StoreCause};
 ghost use Rattle.genie_kernel.specs.View.{view, outline};
 ghost use Rattle.genie_copying.specs.Bounds.{KeepsToBound};
@@ -55,6 +56,7 @@ pub fn out<S: Store>(
     // A call that is a copy moves its bytes, and zeroes untouched pages. Every other one moves none but those of the pages that
     // it can't lend in place.
     ensures copying { KeepsToBound kernel.old (event.Output pid sem dev port flow addr len) kernel.new result }
+    ensures rises { MetersRise (2 ^ 36) kernel.old.memory.frames kernel.new.memory.frames }
 {
     match sem.class() {
         Class::Copy => {

@@ -10,6 +10,7 @@ ghost use Rattle.genie_object.specs.Sound.{IsSized};
 ghost use Rattle.genie_model.specs.Refusing.{refuse};
 ghost use Rattle.genie_kernel.specs.Good.{IsGood};
 ghost use Rattle.genie_kernel.specs.Kept.{Kept};
+ghost use Rattle.genie_kernel.specs.Rising.{MetersRise};
 ghost use Rattle.genie_kernel.specs.Steps.{StepsTold, StoreCause};
 ghost use Rattle.genie_kernel.specs.View.{view, outline};
 ghost use Rattle.genie_copying.specs.Bounds.{KeepsToBound};
@@ -40,6 +41,7 @@ fn begin_copied<S: Store>(
     requires plain { is_plain call.now.sem call.now.len kernel.old.config.cout ≡ true }
     ensures answered { IsAnswered kernel.old call.now kernel.new (S.view store.old) (S.view store.new) result }
     ensures copies { KeepsToRow kernel.old call.now range.now kernel.new result }
+    ensures rises { MetersRise (2 ^ 33) kernel.old.memory.frames kernel.new.memory.frames }
 {
     output_laws();
     let id = kernel.next;
@@ -82,6 +84,7 @@ pub fn out_copied<S: Store>(
     ensures step { (host : HostView) → StepsTold (view kernel.old host (S.view store.old)) (event.Output pid sem dev port flow addr len) (view kernel.new host (S.view store.new)) result }
     ensures cause { StoreCause (mark_of result) (S.view store.old).faults (S.view store.new).faults }
     ensures copying { KeepsToBound kernel.old (event.Output pid sem dev port flow addr len) kernel.new result }
+    ensures rises { MetersRise (2 ^ 36) kernel.old.memory.frames kernel.new.memory.frames }
 {
     output_laws();
     let call = Call {

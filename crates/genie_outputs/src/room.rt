@@ -8,6 +8,7 @@ ghost use Rattle.genie_object.specs.Costs.{AreBelow};
 ghost use Rattle.genie_object.specs.Sound.{IsSized};
 ghost use Rattle.genie_model.specs.Refusing.{refuse};
 ghost use Rattle.genie_kernel.specs.Good.{IsGood};
+ghost use Rattle.genie_kernel.specs.Rising.{MetersRise};
 ghost use Rattle.genie_kernel.specs.View.{outline};
 ghost use Rattle.genie_changes.specs.Making.{IsMoved};
 ghost use Rattle.genie_copying.specs.Spending.{CopiesAtMost, NoDearer};
@@ -36,6 +37,7 @@ fn make_frames<S: Store>(kernel: &mut Kernel, store: &mut S, frames: u32) -> Res
     ensures free { OnOk result (frames ≤ count_by is_free kernel.new.memory.frames.owners) }
     ensures meters { AreBelow (2 ^ 63 + 2 ^ 20) kernel.new.memory.frames.meters }
     ensures cause { HasCause (S.view store.old).faults (S.view store.new).faults result }
+    ensures rises { MetersRise (2 ^ 13) kernel.old.memory.frames kernel.new.memory.frames }
     ensures copies { CopiesAtMost 0 kernel.old.memory kernel.new.memory }
     ensures costs { NoDearer (objects_of kernel.old.hidden) kernel.old.memory kernel.new.memory }
 {
@@ -67,6 +69,7 @@ pub(crate) fn make_ready<S: Store>(
     ensures moved { IsMoved kernel.old kernel.new (S.view store.old) (S.view store.new) }
     ensures ready { IfOk result (λ x. IsReady kernel.new call.now x.0 x.1 (S.view store.new)) }
     ensures cause { HasCause (S.view store.old).faults (S.view store.new).faults result }
+    ensures rises { MetersRise (2 ^ 13) kernel.old.memory.frames kernel.new.memory.frames }
     ensures copies { CopiesAtMost 0 kernel.old.memory kernel.new.memory }
     ensures costs { NoDearer (objects_of kernel.old.hidden) kernel.old.memory kernel.new.memory }
 {

@@ -1,8 +1,11 @@
-use Rattle.std.proofs.Common.{arith, ◌/◌, ◌+◌}
+use Rattle.std.proofs.Common.{arith, ◌/◌, ◌+◌, ◌^◌}
+use Rattle.genie_object.specs.Costs.{is_untouched}
 use Rattle.genie_object.specs.Lemmas.Works.{page_most}
 use Rattle.genie_access.proofs.Pieces.{most_work}
 use Rattle.genie_access.proofs.Joined.{narrow_one, range_one, range_two, moves_twice, meters_left, gets_one, moves_object}
 use Rattle.genie_access.proofs.Copied.{read_one, read_two}
+use Rattle.genie_access.proofs.Rising.{rises_page}
+use Rattle.genie_kernel.specs.Lemmas.Rising.{rises_most, rises_twice}
 use Rattle.genie_access.proofs.ranges.read_range.Goals as goal
 
 pub returns-then-first-n-clause-bytes : goal.returns-then-first-n-clause-bytes
@@ -46,3 +49,15 @@ returns-in-Ok-read_page-clause-copies g c = read_two c.args.memory.now c.read_pa
 
 pub returns-in-Err-read_page-clause-copies : goal.returns-in-Err-read_page-clause-copies
 returns-in-Err-read_page-clause-copies g c = read_two c.args.memory.now c.read_page.new.memory c.read_page-2.new.memory c.args.object.0 c.args.off c.args.n c.page-page.result c.min-first.result _ _ c.page-page.ensures.size (omega (arith, c.requires.some, c.requires.most, c.page-page.ensures.size)) (omega (arith, c.min-first.ensures)) (omega (arith, c.min-first.ensures, c.if-first-n.false)) c.in-Ok.ensures.meters c.in-Ok.ensures.moves.costs c.in-Ok.ensures.moves.keeps.page c.in-Err-read_page.ensures.meters
+
+pub returns-in-Err-clause-rises : goal.returns-in-Err-clause-rises
+returns-in-Err-clause-rises g c = rises_most (2 ^ 14) (2 ^ 15) c.args.memory.now.frames c.read_page.new.memory.frames (omega arith) (rises_page _ _ c.args.memory.now.frames c.read_page.new.memory.frames c.in-Err.ensures.meters c.in-Err.ensures.moves.landed (let most = most_work (is_untouched c.args.memory.now c.args.object.0 (c.args.off / c.page-page.result)) c.args.memory.now.frames.page (page_most c.args.memory.now.frames.page c.requires.sound.shaped.size) in omega (arith, most, c.requires.buffer, c.min-first.ensures)) (gets_one _))
+
+pub returns-then-first-n-clause-rises : goal.returns-then-first-n-clause-rises
+returns-then-first-n-clause-rises g c = rises_most (2 ^ 14) (2 ^ 15) c.args.memory.now.frames c.read_page.new.memory.frames (omega arith) (rises_page _ _ c.args.memory.now.frames c.read_page.new.memory.frames c.in-Ok.ensures.meters c.in-Ok.ensures.moves.landed (let most = most_work (is_untouched c.args.memory.now c.args.object.0 (c.args.off / c.page-page.result)) c.args.memory.now.frames.page (page_most c.args.memory.now.frames.page c.requires.sound.shaped.size) in omega (arith, most, c.requires.buffer, c.min-first.ensures)) (gets_one _))
+
+pub returns-in-Ok-read_page-clause-rises : goal.returns-in-Ok-read_page-clause-rises
+returns-in-Ok-read_page-clause-rises g c = rises_twice (2 ^ 14) (2 ^ 14) (2 ^ 15) c.args.memory.now.frames c.read_page.new.memory.frames c.read_page-2.new.memory.frames (omega arith) (rises_page _ _ c.args.memory.now.frames c.read_page.new.memory.frames c.in-Ok.ensures.meters c.in-Ok.ensures.moves.landed (let most = most_work (is_untouched c.args.memory.now c.args.object.0 (c.args.off / c.page-page.result)) c.args.memory.now.frames.page (page_most c.args.memory.now.frames.page c.requires.sound.shaped.size) in omega (arith, most, c.requires.buffer, c.min-first.ensures)) (gets_one _)) (rises_page _ _ c.read_page.new.memory.frames c.read_page-2.new.memory.frames c.in-Ok-read_page.ensures.meters c.in-Ok-read_page.ensures.moves.landed (let most = most_work (is_untouched c.read_page.new.memory c.args.object.0 (c.args.off / c.page-page.result + 1)) c.read_page.new.memory.frames.page (page_most c.read_page.new.memory.frames.page c.in-Ok.ensures.moves.sound.shaped.size) in omega (arith, most, c.requires.buffer)) (gets_one _))
+
+pub returns-in-Err-read_page-clause-rises : goal.returns-in-Err-read_page-clause-rises
+returns-in-Err-read_page-clause-rises g c = rises_twice (2 ^ 14) (2 ^ 14) (2 ^ 15) c.args.memory.now.frames c.read_page.new.memory.frames c.read_page-2.new.memory.frames (omega arith) (rises_page _ _ c.args.memory.now.frames c.read_page.new.memory.frames c.in-Ok.ensures.meters c.in-Ok.ensures.moves.landed (let most = most_work (is_untouched c.args.memory.now c.args.object.0 (c.args.off / c.page-page.result)) c.args.memory.now.frames.page (page_most c.args.memory.now.frames.page c.requires.sound.shaped.size) in omega (arith, most, c.requires.buffer, c.min-first.ensures)) (gets_one _)) (rises_page _ _ c.read_page.new.memory.frames c.read_page-2.new.memory.frames c.in-Err-read_page.ensures.meters c.in-Err-read_page.ensures.moves.landed (let most = most_work (is_untouched c.read_page.new.memory c.args.object.0 (c.args.off / c.page-page.result + 1)) c.read_page.new.memory.frames.page (page_most c.read_page.new.memory.frames.page c.in-Ok.ensures.moves.sound.shaped.size) in omega (arith, most, c.requires.buffer)) (gets_one _))

@@ -1,8 +1,9 @@
-use Rattle.std.proofs.Common.{subst, List, ℕ}
+use Rattle.std.proofs.Common.{arith, ◌^◌, subst, List, ℕ}
 use Rattle.genie_kernel.specs.Lemmas.Keeping.{hidden_kept}
 use Rattle.genie_access.specs.Reading.{ReadsObject}
 use Rattle.genie_access.proofs.Led.{led_inside, led_outside, seen_on, reads_at}
 use Rattle.genie_access.proofs.Copied.{reads_bound}
+use Rattle.genie_kernel.specs.Lemmas.Rising.{rises_most, rises_twice}
 use Rattle.genie_access.proofs.reading.read_into.Goals as goal
 
 pub read_range-requires-clause-inside : goal.read_range-requires-clause-inside
@@ -22,3 +23,12 @@ returns-in-Ok-read_range-clause-copies g c = reads_bound c.args.kernel.now c.mak
 
 pub returns-in-Err-read_range-clause-copies : goal.returns-in-Err-read_range-clause-copies
 returns-in-Err-read_range-clause-copies g c = reads_bound c.args.kernel.now c.make_two.new.kernel.memory c.read_range.new.memory c.args.pid c.args.addr c.args.len c.find_place-off.result.0 c.find_place-off.result.1 c.requires.good c.find_place-off.ensures c.make_two.ensures.costs c.make_two.ensures.copies c.read_range.ensures.copies
+
+pub returns-in-Err-clause-rises : goal.returns-in-Err-clause-rises
+returns-in-Err-clause-rises g c = rises_most (2 ^ 13) (2 ^ 36) c.args.kernel.now.memory.frames c.make_two.new.kernel.memory.frames (omega arith) c.make_two.ensures.rises
+
+pub returns-in-Ok-read_range-clause-rises : goal.returns-in-Ok-read_range-clause-rises
+returns-in-Ok-read_range-clause-rises g c = rises_twice (2 ^ 13) (2 ^ 15) (2 ^ 36) c.args.kernel.now.memory.frames c.make_two.new.kernel.memory.frames c.read_range.new.memory.frames (omega arith) c.make_two.ensures.rises c.read_range.ensures.rises
+
+pub returns-in-Err-read_range-clause-rises : goal.returns-in-Err-read_range-clause-rises
+returns-in-Err-read_range-clause-rises g c = rises_twice (2 ^ 13) (2 ^ 15) (2 ^ 36) c.args.kernel.now.memory.frames c.make_two.new.kernel.memory.frames c.read_range.new.memory.frames (omega arith) c.make_two.ensures.rises c.read_range.ensures.rises

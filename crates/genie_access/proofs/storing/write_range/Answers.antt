@@ -3,6 +3,8 @@ use Rattle.genie_object.specs.Lemmas.Works.{below_more}
 use Rattle.genie_access.proofs.Joined.{gets_one, moves_twice}
 use Rattle.genie_access.proofs.Stored.{meter_put, meters_on, ready_there, taken_rest, taken_size, there_put, write_small, wrote_one, wrote_two}
 use Rattle.genie_access.proofs.Copied.{copies_less, put_one, put_two, write_one, write_two}
+use Rattle.genie_access.proofs.Rising.{rises_page, rises_put}
+use Rattle.genie_kernel.specs.Lemmas.Rising.{rises_most, rises_twice}
 use Rattle.genie_access.proofs.storing.write_range.Goals as goal
 
 pub returns-then-first-n-clause-stored : goal.returns-then-first-n-clause-stored
@@ -60,3 +62,22 @@ returns-clause-copies g c =
     let size : length (take c.min-first.result c.args.bytes.now) ≡ c.min-first.result = taken_size c.min-first.result c.args.bytes.now (omega (arith, c.min-first.ensures)) in
     let rest : length (take (length c.args.bytes.now - c.min-first.result) (drop c.min-first.result c.args.bytes.now)) ≡ length c.args.bytes.now - c.min-first.result = ap length (taken_rest c.min-first.result c.args.bytes.now) ∙ length-drop c.min-first.result c.args.bytes.now in
     put_two _ (length (take c.min-first.result c.args.bytes.now)) (length (take (length c.args.bytes.now - c.min-first.result) (drop c.min-first.result c.args.bytes.now))) (length c.args.bytes.now) c.args.memory.now c.resolve_write-2.new.memory c.write-2.new.self c.write-3.new.self _ _ _ _ _ _ (omega (arith, size, rest, c.min-first.ensures)) (write_two c.args.memory.now c.resolve_write.new.memory c.resolve_write-2.new.memory c.args.object.0 c.args.off (length c.args.bytes.now) c.page-page.result _ _ c.page-page.ensures.size (omega (arith, c.requires.some, c.requires.most, c.page-page.ensures.size)) (omega (arith, c.min-first.ensures, c.if-first-n.false)) c.in-Ok.ensures.meters c.in-Ok.ensures.moves.costs c.in-Ok.ensures.moves.keeps.page c.in-Ok-resolve_write.ensures.meters) c.write-2.ensures c.write-3.ensures
+
+pub returns-in-Err-clause-rises : goal.returns-in-Err-clause-rises
+returns-in-Err-clause-rises g c = rises_most (2 ^ 14) (2 ^ 16) c.args.memory.now.frames c.resolve_write.new.memory.frames (omega arith) (rises_page _ _ c.args.memory.now.frames c.resolve_write.new.memory.frames c.in-Err.ensures.meters c.in-Err.ensures.moves.landed (let most = write_small c.args.memory.now c.args.object.0 (c.args.off / c.page-page.result) c.requires.sound in omega (arith, most)) (gets_one _))
+
+pub returns-then-first-n-clause-rises : goal.returns-then-first-n-clause-rises
+returns-then-first-n-clause-rises g c = rises_twice (2 ^ 14) (2 ^ 12) (2 ^ 16) c.args.memory.now.frames c.resolve_write.new.memory.frames c.write.new.self (omega arith) (rises_page _ _ c.args.memory.now.frames c.resolve_write.new.memory.frames c.in-Ok.ensures.meters c.in-Ok.ensures.moves.landed (let most = write_small c.args.memory.now c.args.object.0 (c.args.off / c.page-page.result) c.requires.sound in omega (arith, most)) (gets_one _)) (rises_put c.resolve_write.new.memory.frames c.write.new.self _ _ _ _ c.write.ensures (omega (arith, c.requires.short)))
+
+pub returns-in-Err-resolve_write-clause-rises : goal.returns-in-Err-resolve_write-clause-rises
+returns-in-Err-resolve_write-clause-rises g c = rises_twice (2 ^ 14) (2 ^ 14) (2 ^ 16) c.args.memory.now.frames c.resolve_write.new.memory.frames c.resolve_write-2.new.memory.frames (omega arith) (rises_page _ _ c.args.memory.now.frames c.resolve_write.new.memory.frames c.in-Ok.ensures.meters c.in-Ok.ensures.moves.landed (let most = write_small c.args.memory.now c.args.object.0 (c.args.off / c.page-page.result) c.requires.sound in omega (arith, most)) (gets_one _)) (rises_page _ _ c.resolve_write.new.memory.frames c.resolve_write-2.new.memory.frames c.in-Err-resolve_write.ensures.meters c.in-Err-resolve_write.ensures.moves.landed (let most = write_small c.resolve_write.new.memory c.args.object.0 (c.args.off / c.page-page.result + 1) c.in-Ok.ensures.moves.sound in omega (arith, most)) (gets_one _))
+
+pub returns-clause-rises : goal.returns-clause-rises
+returns-clause-rises g c =
+    let size : length (take c.min-first.result c.args.bytes.now) ≡ c.min-first.result = taken_size c.min-first.result c.args.bytes.now (omega (arith, c.min-first.ensures)) in
+    let rest : length (take (length c.args.bytes.now - c.min-first.result) (drop c.min-first.result c.args.bytes.now)) ≡ length c.args.bytes.now - c.min-first.result = ap length (taken_rest c.min-first.result c.args.bytes.now) ∙ length-drop c.min-first.result c.args.bytes.now in
+    let ready = rises_twice (2 ^ 14) (2 ^ 14) (2 ^ 15) c.args.memory.now.frames c.resolve_write.new.memory.frames c.resolve_write-2.new.memory.frames (omega arith) (rises_page _ _ c.args.memory.now.frames c.resolve_write.new.memory.frames c.in-Ok.ensures.meters c.in-Ok.ensures.moves.landed (let most = write_small c.args.memory.now c.args.object.0 (c.args.off / c.page-page.result) c.requires.sound in omega (arith, most)) (gets_one _)) (rises_page _ _ c.resolve_write.new.memory.frames c.resolve_write-2.new.memory.frames c.in-Ok-resolve_write.ensures.meters c.in-Ok-resolve_write.ensures.moves.landed (let most = write_small c.resolve_write.new.memory c.args.object.0 (c.args.off / c.page-page.result + 1) c.in-Ok.ensures.moves.sound in omega (arith, most)) (gets_one _)) in
+    let first = rises_put c.resolve_write-2.new.memory.frames c.write-2.new.self _ _ _ _ c.write-2.ensures (omega (arith, size, c.min-first.ensures, c.requires.short)) in
+    let second = rises_put c.write-2.new.self c.write-3.new.self _ _ _ _ c.write-3.ensures (omega (arith, rest, c.requires.short)) in
+    let stored = rises_twice (2 ^ 12) (2 ^ 12) (2 ^ 13) c.resolve_write-2.new.memory.frames c.write-2.new.self c.write-3.new.self (omega arith) first second in
+    rises_twice (2 ^ 15) (2 ^ 13) (2 ^ 16) c.args.memory.now.frames c.resolve_write-2.new.memory.frames c.write-3.new.self (omega arith) ready stored

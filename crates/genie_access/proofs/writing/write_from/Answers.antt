@@ -1,7 +1,8 @@
-use Rattle.std.proofs.Common.{refl, length}
+use Rattle.std.proofs.Common.{arith, ◌^◌, refl, length}
 use Rattle.genie_access.proofs.Led.{led_inside}
 use Rattle.genie_access.proofs.Wrote.{wrote_at, wrote_seen}
 use Rattle.genie_access.proofs.Copied.{writes_bound}
+use Rattle.genie_kernel.specs.Lemmas.Rising.{rises_most, rises_twice}
 use Rattle.genie_access.proofs.writing.write_from.Goals as goal
 
 pub write_range-requires-clause-inside : goal.write_range-requires-clause-inside
@@ -18,3 +19,12 @@ returns-in-Ok-write_range-clause-copies g c = writes_bound c.args.kernel.now c.m
 
 pub returns-in-Err-write_range-clause-copies : goal.returns-in-Err-write_range-clause-copies
 returns-in-Err-write_range-clause-copies g c = writes_bound c.args.kernel.now c.make_two.new.kernel.memory c.write_range.new.memory c.args.pid c.args.addr c.args.bytes.now c.find_place-off.result.0 c.find_place-off.result.1 c.requires.good c.find_place-off.ensures c.make_two.ensures.costs c.make_two.ensures.copies c.write_range.ensures.copies
+
+pub returns-in-Err-clause-rises : goal.returns-in-Err-clause-rises
+returns-in-Err-clause-rises g c = rises_most (2 ^ 13) (2 ^ 36) c.args.kernel.now.memory.frames c.make_two.new.kernel.memory.frames (omega arith) c.make_two.ensures.rises
+
+pub returns-in-Ok-write_range-clause-rises : goal.returns-in-Ok-write_range-clause-rises
+returns-in-Ok-write_range-clause-rises g c = rises_twice (2 ^ 13) (2 ^ 16) (2 ^ 36) c.args.kernel.now.memory.frames c.make_two.new.kernel.memory.frames c.write_range.new.memory.frames (omega arith) c.make_two.ensures.rises c.write_range.ensures.rises
+
+pub returns-in-Err-write_range-clause-rises : goal.returns-in-Err-write_range-clause-rises
+returns-in-Err-write_range-clause-rises g c = rises_twice (2 ^ 13) (2 ^ 16) (2 ^ 36) c.args.kernel.now.memory.frames c.make_two.new.kernel.memory.frames c.write_range.new.memory.frames (omega arith) c.make_two.ensures.rises c.write_range.ensures.rises

@@ -1,4 +1,4 @@
-use Rattle.std.proofs.Common.{◌≡◌, true, sym, subst}
+use Rattle.std.proofs.Common.{◌≡◌, true, sym, subst, arith, ◌^◌, ◌∙◌, ap}
 use Rattle.std.specs.Prelude.{Some}
 use Rattle.genie_kernel.specs.declared.kernel.Kernel.{Kernel}
 use Rattle.genie_region.specs.Layouts.{region_of}
@@ -9,8 +9,8 @@ use Rattle.genie_outputs.proofs.Gone.{hidden_out, moved_settled}
 use Rattle.genie_outputs.proofs.Lent.{object_there, unlent_out}
 use Rattle.genie_outputs.proofs.Reached.{can_prepare, may_output}
 use Rattle.genie_frame.specs.FrameTable.{FrameTable}
-use Rattle.std.proofs.Common.{ap, ◌∙◌}
 use Rattle.genie_outputs.proofs.Rows.{meters_left, given_row}
+use Rattle.genie_kernel.specs.Lemmas.Rising.{rises_left, rises_most}
 use Rattle.genie_outputs.proofs.hiding.begin_hidden.Goals as goal
 
 pub lend_strong-requires-clause-range : goal.lend_strong-requires-clause-range
@@ -42,3 +42,9 @@ returns-in-Ok-clause-copies g c = meters_left _ c.args.kernel.now.memory c.lend_
 
 pub returns-in-Err-clause-copies : goal.returns-in-Err-clause-copies
 returns-in-Err-clause-copies g c = (given_row c.args.kernel.now c.lend_strong.new.memory c.args.call.now c.args.region.now c.args.range.now (g.S.Store.view c.args.store.now) c.requires.ready c.requires.class c.lend_strong.ensures.copies)
+
+pub returns-in-Ok-clause-rises : goal.returns-in-Ok-clause-rises
+returns-in-Ok-clause-rises g c = rises_left (2 ^ 33) c.args.kernel.now.memory.frames c.lend_strong.new.memory.frames c.hide_region.new.kernel.memory.frames (ap (λ (z : FrameTable). z.meters) c.hide_region.ensures.object.frames ∙ ap (λ (z : Kernel). z.memory.frames.meters) c.add_output.ensures) (ap (λ (z : FrameTable). z.landed) c.hide_region.ensures.object.frames ∙ ap (λ (z : Kernel). z.memory.frames.landed) c.add_output.ensures) (rises_most (2 ^ 20) (2 ^ 33) c.args.kernel.now.memory.frames c.lend_strong.new.memory.frames (omega arith) c.lend_strong.ensures.rises)
+
+pub returns-in-Err-clause-rises : goal.returns-in-Err-clause-rises
+returns-in-Err-clause-rises g c = rises_most (2 ^ 20) (2 ^ 33) c.args.kernel.now.memory.frames c.lend_strong.new.memory.frames (omega arith) c.lend_strong.ensures.rises

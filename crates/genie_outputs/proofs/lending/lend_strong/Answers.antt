@@ -2,6 +2,7 @@ use Rattle.genie_tcow.specs.Ranges.{is_of_range}
 use Rattle.genie_plan.specs.Loans as kind
 use Rattle.genie_plan.specs.Loans.{output_loans}
 use Rattle.genie_outputs.proofs.Narrowed.{back_narrowed, lent_narrowed, there_still}
+use Rattle.genie_outputs.proofs.Rising.{rises_strong}
 use Rattle.genie_outputs.proofs.lending.lend_strong.Goals as goal
 
 pub guard-requires : goal.guard-requires
@@ -21,3 +22,9 @@ returns-in-Ok-clause-copies g c = c.prepare_strong.ensures.spends.work
 
 pub returns-in-Err-clause-copies : goal.returns-in-Err-clause-copies
 returns-in-Err-clause-copies g c = c.prepare_strong.ensures.spends.work
+
+pub returns-in-Ok-clause-rises : goal.returns-in-Ok-clause-rises
+returns-in-Ok-clause-rises g c = rises_strong c.args.memory.now c.prepare_strong.new.memory c.args.range.now c.requires.sound c.requires.range c.in-Ok.ensures.lent.landed c.prepare_strong.ensures.spends
+
+pub returns-in-Err-clause-rises : goal.returns-in-Err-clause-rises
+returns-in-Err-clause-rises g c = rises_strong c.args.memory.now c.prepare_strong.new.memory c.args.range.now c.requires.sound c.requires.range c.in-Err.ensures.failed.landed c.prepare_strong.ensures.spends

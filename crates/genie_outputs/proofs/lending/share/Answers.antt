@@ -1,8 +1,10 @@
+use Rattle.std.proofs.Common.{◌^◌}
 use Rattle.genie_outputs.proofs.Lent.{object_there}
 use Rattle.genie_outputs.proofs.Reached.{can_prepare}
 use Rattle.genie_outputs.proofs.Shared.{frames_room, frames_there, shared, unshared}
 use Rattle.genie_outputs.proofs.Rows.{wires_move_none}
 use Rattle.genie_base.specs.Transfers.{is_emulated}
+use Rattle.genie_outputs.proofs.Rising.{rises_wired}
 use Rattle.genie_outputs.proofs.lending.share.Goals as goal
 
 pub lend_weak-requires-clause-range : goal.lend_weak-requires-clause-range
@@ -25,3 +27,6 @@ returns-in-Err-clause-failed g c = unshared c.output_laws.ensures c.args.kernel.
 
 pub returns-in-Ok-clause-copies : goal.returns-in-Ok-clause-copies
 returns-in-Ok-clause-copies g c = wires_move_none (is_emulated c.args.call.now.sem) _ _ c.args.kernel.now.memory c.lend_weak.new.memory c.wire_plan.new.frames c.wire_plan.ensures c.lend_weak.ensures.copies
+
+pub returns-in-Ok-clause-rises : goal.returns-in-Ok-clause-rises
+returns-in-Ok-clause-rises g c = rises_wired (is_emulated c.args.call.now.sem) _ (2 ^ 20) c.args.kernel.now.memory.frames c.lend_weak.new.memory.frames c.wire_plan.new.frames c.wire_plan.ensures c.lend_weak.ensures.rises

@@ -1,8 +1,10 @@
 use Rattle.genie_outputs.proofs.Copied.{copied, uncopied}
 use Rattle.genie_outputs.proofs.Reached.{can_prepare, may_output}
 use Rattle.genie_kernel.specs.declared.kernel.Kernel.{Kernel}
-use Rattle.std.proofs.Common.{ap}
+use Rattle.std.proofs.Common.{ap, ◌^◌}
 use Rattle.genie_outputs.proofs.Rows.{meters_left, copied_row}
+use Rattle.genie_kernel.specs.Lemmas.Rising.{rises_left}
+use Rattle.genie_outputs.proofs.Rising.{rises_copied}
 use Rattle.genie_outputs.proofs.plain.begin_copied.Goals as goal
 
 pub prepare_copy-requires-clause-range : goal.prepare_copy-requires-clause-range
@@ -22,3 +24,9 @@ returns-in-Ok-clause-copies g c = meters_left _ c.args.kernel.now.memory c.prepa
 
 pub returns-in-Err-clause-copies : goal.returns-in-Err-clause-copies
 returns-in-Err-clause-copies g c = (copied_row c.args.kernel.now c.prepare_copy.new.memory c.args.call.now c.args.region.now c.args.range.now (g.S.Store.view c.args.store.now) c.requires.ready c.requires.class c.requires.plain c.prepare_copy.ensures.spends.work)
+
+pub returns-in-Ok-clause-rises : goal.returns-in-Ok-clause-rises
+returns-in-Ok-clause-rises g c = rises_left (2 ^ 33) c.args.kernel.now.memory.frames c.prepare_copy.new.memory.frames c.add_output.new.kernel.memory.frames (ap (λ (z : Kernel). z.memory.frames.meters) c.add_output.ensures) (ap (λ (z : Kernel). z.memory.frames.landed) c.add_output.ensures) (rises_copied c.args.kernel.now.memory c.prepare_copy.new.memory c.args.range.now c.requires.ready.good.sound (can_prepare c.output_laws.ensures c.args.kernel.now c.args.call.now c.args.region.now c.args.range.now (g.S.Store.view c.args.store.now) c.requires.ready) c.in-Ok.ensures.lent.landed c.prepare_copy.ensures.spends)
+
+pub returns-in-Err-clause-rises : goal.returns-in-Err-clause-rises
+returns-in-Err-clause-rises g c = rises_copied c.args.kernel.now.memory c.prepare_copy.new.memory c.args.range.now c.requires.ready.good.sound (can_prepare c.output_laws.ensures c.args.kernel.now c.args.call.now c.args.region.now c.args.range.now (g.S.Store.view c.args.store.now) c.requires.ready) c.in-Err.ensures.failed.landed c.prepare_copy.ensures.spends

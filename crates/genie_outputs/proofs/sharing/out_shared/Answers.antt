@@ -1,5 +1,7 @@
+use Rattle.std.proofs.Common.{arith, ◌^◌}
 use Rattle.genie_outputs.proofs.Rows.{failed_keeps, out_keeps}
 use Rattle.genie_outputs.proofs.Answered.{answered_since, failed_answered, moved_config}
+use Rattle.genie_kernel.specs.Lemmas.Rising.{rises_most, rises_twice}
 use Rattle.genie_outputs.proofs.sharing.out_shared.Goals as goal
 
 pub returns-in-Ok-clause-kept : goal.returns-in-Ok-clause-kept
@@ -22,3 +24,9 @@ returns-in-Err-clause-copying g c = failed_keeps c.args.kernel.now c.make_ready.
 
 pub returns-in-Err-clause-config : goal.returns-in-Err-clause-config
 returns-in-Err-clause-config g c = moved_config c.args.kernel.now c.make_ready.new.kernel (g.S.Store.view c.args.store.now) (g.S.Store.view c.make_ready.new.store) c.make_ready.ensures.moved
+
+pub returns-in-Ok-clause-rises : goal.returns-in-Ok-clause-rises
+returns-in-Ok-clause-rises g c = rises_twice (2 ^ 13) (2 ^ 33) (2 ^ 36) c.args.kernel.now.memory.frames c.make_ready.new.kernel.memory.frames c.begin_shared.new.kernel.memory.frames (omega arith) c.make_ready.ensures.rises c.begin_shared.ensures.rises
+
+pub returns-in-Err-clause-rises : goal.returns-in-Err-clause-rises
+returns-in-Err-clause-rises g c = rises_most (2 ^ 13) (2 ^ 36) c.args.kernel.now.memory.frames c.make_ready.new.kernel.memory.frames (omega arith) c.make_ready.ensures.rises

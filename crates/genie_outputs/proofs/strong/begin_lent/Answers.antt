@@ -1,9 +1,10 @@
-use Rattle.std.proofs.Common.{ap}
+use Rattle.std.proofs.Common.{ap, arith, ◌^◌}
 use Rattle.genie_base.specs.Transfers.{is_strong, is_system}
 use Rattle.genie_outputs.proofs.Lent.{lent_out, object_there, unlent_out}
 use Rattle.genie_outputs.proofs.Reached.{can_prepare, may_output}
 use Rattle.genie_kernel.specs.declared.kernel.Kernel.{Kernel}
 use Rattle.genie_outputs.proofs.Rows.{meters_left, sent_row}
+use Rattle.genie_kernel.specs.Lemmas.Rising.{rises_left, rises_most}
 use Rattle.genie_outputs.proofs.strong.begin_lent.Goals as goal
 
 pub lend_strong-requires-clause-range : goal.lend_strong-requires-clause-range
@@ -26,3 +27,9 @@ returns-in-Ok-clause-copies g c = meters_left _ c.args.kernel.now.memory c.lend_
 
 pub returns-in-Err-clause-copies : goal.returns-in-Err-clause-copies
 returns-in-Err-clause-copies g c = (sent_row c.args.kernel.now c.lend_strong.new.memory c.args.call.now c.args.region.now c.args.range.now (g.S.Store.view c.args.store.now) c.requires.ready c.requires.class c.requires.emulated c.lend_strong.ensures.copies)
+
+pub returns-in-Ok-clause-rises : goal.returns-in-Ok-clause-rises
+returns-in-Ok-clause-rises g c = rises_left (2 ^ 33) c.args.kernel.now.memory.frames c.lend_strong.new.memory.frames c.add_output.new.kernel.memory.frames (ap (λ (z : Kernel). z.memory.frames.meters) c.add_output.ensures) (ap (λ (z : Kernel). z.memory.frames.landed) c.add_output.ensures) (rises_most (2 ^ 20) (2 ^ 33) c.args.kernel.now.memory.frames c.lend_strong.new.memory.frames (omega arith) c.lend_strong.ensures.rises)
+
+pub returns-in-Err-clause-rises : goal.returns-in-Err-clause-rises
+returns-in-Err-clause-rises g c = rises_most (2 ^ 20) (2 ^ 33) c.args.kernel.now.memory.frames c.lend_strong.new.memory.frames (omega arith) c.lend_strong.ensures.rises

@@ -1,4 +1,4 @@
-use Rattle.std.proofs.Common.{ap, sym, subst, ◌≡◌, ◌∙◌, ◌<◌, [], length, get_or, true, false}
+use Rattle.std.proofs.Common.{ap, sym, subst, ◌≡◌, ◌∙◌, ◌<◌, [], length, get_or, true, false, arith, ◌^◌}
 use Rattle.std.specs.Prelude.{is_some}
 use Rattle.genie_hiding.specs.Queues.{is_in}
 use Rattle.genie_region.specs.Layouts.{region_of}
@@ -11,6 +11,7 @@ use Rattle.genie_outputs.proofs.Answered.{failed_answered}
 use Rattle.genie_outputs.proofs.Reached.{may_output}
 use Rattle.genie_outputs.proofs.Given.{found_region, live_region, moved_out_answered, process_number, queue_room, unlisted}
 use Rattle.genie_outputs.proofs.Rows.{meters_left, shared_row}
+use Rattle.genie_kernel.specs.Lemmas.Rising.{rises_left, rises_most}
 use Rattle.genie_outputs.proofs.weak_moving.begin_moved_out.Goals as goal
 
 pub share-requires-clause-weak : goal.share-requires-clause-weak
@@ -42,3 +43,9 @@ returns-in-Ok-clause-copies g c = meters_left _ c.args.kernel.now.memory c.share
 
 pub returns-in-Err-clause-copies : goal.returns-in-Err-clause-copies
 returns-in-Err-clause-copies g c = (shared_row c.args.kernel.now c.share.new.kernel.memory c.args.call.now c.args.region.now c.args.range.now (g.S.Store.view c.args.store.now) c.requires.ready (ap is_strong c.requires.class) c.share.ensures.copies)
+
+pub returns-in-Ok-clause-rises : goal.returns-in-Ok-clause-rises
+returns-in-Ok-clause-rises g c = rises_left (2 ^ 33) c.args.kernel.now.memory.frames c.share.new.kernel.memory.frames c.move_out.new.kernel.memory.frames (ap (λ (z : Kernel). z.memory.frames.meters) c.move_out.ensures ∙ ap (λ (z : Kernel). z.memory.frames.meters) c.add_output.ensures) (ap (λ (z : Kernel). z.memory.frames.landed) c.move_out.ensures ∙ ap (λ (z : Kernel). z.memory.frames.landed) c.add_output.ensures) (rises_most (2 ^ 20) (2 ^ 33) c.args.kernel.now.memory.frames c.share.new.kernel.memory.frames (omega arith) c.share.ensures.rises)
+
+pub returns-in-Err-clause-rises : goal.returns-in-Err-clause-rises
+returns-in-Err-clause-rises g c = rises_most (2 ^ 20) (2 ^ 33) c.args.kernel.now.memory.frames c.share.new.kernel.memory.frames (omega arith) c.share.ensures.rises
