@@ -1,10 +1,12 @@
 mod Accepted
 mod Answered
 mod Buffered
+mod Claimed
 mod Copying
 mod Enlarged
 mod Filling
 mod Finding
+mod HiddenAgain
 mod Holding
 mod Lending
 mod MovedIn
@@ -15,3 +17,4 @@ mod Renewed
 mod Sharing
 mod Targeting
 mod Weakly
+mod Rising

@@ -1,8 +1,9 @@
 -- A buffer of the system's that is lent for a strong input.
-use Rattle.std.specs.Prelude.{◌≡◌, ℕ, Bool, true, false, Option, None, Some, if◌then◌else◌}
+use Rattle.std.specs.Prelude.{◌≡◌, ℕ, ◌+◌, ◌≤◌, length, Bool, true, false, Option, None, Some, if◌then◌else◌}
 use Rattle.genie_base.specs.Counts.{span}
 use Rattle.genie_base.specs.declared.config.DeviceConfig.{DeviceConfig}
 use Rattle.genie_frame.specs.declared.frame.Owner.TheVariants.{System}
+use Rattle.genie_frame.specs.FrameTable.{FrameTable}
 use Rattle.genie_object.specs.declared.memory.Memory.{Memory}
 use Rattle.genie_object.specs.Sound.{IsSound}
 use Rattle.genie_plan.specs.Buffers.{AreLentFresh}
@@ -33,11 +34,17 @@ LendsAt page at len true Nothing = ⊥
 LendsAt page at len true (Outward p) = ⊥
 LendsAt page at len true (Inward p) = LendsRange page at len (input_frames p.loans.items) p.first p.len
 
--- free frames were taken for transfer n and are lent for its range; all else is as before
+-- the frames, with another count of those that were handed out
+abbrev pub with_taken : FrameTable → ℕ → FrameTable
+with_taken t count = record t { meters = record (t.meters) { taken = count } }
+
+-- free frames became transfer n's and are lent for its range, whether each was handed out or not; all else is as before
 pub record LendsBuffer (n at len : ℕ) (early : Bool) (old new : Memory) (loans : Loans) : Type 0 where
   pub sound : IsSound new
   pub lends : LendsAt old.frames.page at len early loans
-  pub fresh : AreLentFresh (System n) (frames_of loans) old.frames new.frames
+  pub count : ℕ
+  pub fresh : AreLentFresh (System n) (frames_of loans) old.frames (with_taken new.frames count)
+  pub taken : new.frames.meters.taken ≤ old.frames.meters.taken + length (frames_of loans)
   pub shows : ShowsBesides (frames_of loans) old new
   pub pages : new.pages ≡ old.pages
   pub objects : new.objects ≡ old.objects

@@ -1,5 +1,7 @@
 pub mod Buffers
 pub mod Calls
+pub mod Claiming
+pub mod HiddenReuse
 pub mod InputLaws
 pub mod Places
 pub mod Placing

@@ -9,6 +9,7 @@ ghost use Rattle.genie_object.specs.Sound.{IsSound, IsSized};
 ghost use Rattle.genie_model.specs.Tables.{entry};
 ghost use Rattle.genie_kernel.specs.Good.{IsGood};
 ghost use Rattle.genie_kernel.specs.Planned.{is_early_device};
+ghost use Rattle.genie_kernel.specs.Rising.{MetersRise};
 ghost use Rattle.genie_inputs.specs.Buffers.{LendsBuffer, LendsStrong, frames_for, is_early_place};
 ghost use Rattle.genie_changes.specs.Making.{IsMoved};
 
@@ -21,7 +22,7 @@ use genie_plan::page_count;
 use genie_store::{Store, StoreFault};
 
 // Whether an early device is at this place of the configuration.
-fn is_early_at(config: &Config, dev: u32) -> bool
+pub(crate) fn is_early_at(config: &Config, dev: u32) -> bool
     ensures { result ≡ is_early_place (entry config.now.devices dev) }
 {
     match config.devices.get(dev as usize) {
@@ -74,6 +75,7 @@ pub(crate) fn lend_strongly<S: Store>(
     ensures lends { IfOk result (LendsStrong kernel.old kernel.new (S.view store.old) (S.view store.new) id.0 dev at len) }
     ensures moved { OnErr result (IsMoved kernel.old kernel.new (S.view store.old) (S.view store.new)) }
     ensures cause { HasCause (S.view store.old).faults (S.view store.new).faults result }
+    ensures rises { MetersRise (2 ^ 20) kernel.old.memory.frames kernel.new.memory.frames }
 {
     let page = kernel.spaces.page().get();
     let early = is_early_at(&kernel.config, dev);

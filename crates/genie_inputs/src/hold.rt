@@ -7,13 +7,15 @@ ghost use Rattle.genie_object.specs.Costs.{AreBelow};
 ghost use Rattle.genie_object.specs.Sound.{IsSized};
 ghost use Rattle.genie_model.specs.Refusing.{refuse};
 ghost use Rattle.genie_kernel.specs.Good.{IsGood};
+ghost use Rattle.genie_kernel.specs.Rising.{MetersRise};
 ghost use Rattle.genie_kernel.specs.Steps.{StoreCause};
 ghost use Rattle.genie_kernel.specs.View.{outline};
 ghost use Rattle.genie_inputs.specs.Calls.{input_event};
+ghost use Rattle.genie_inputs.specs.HiddenReuse.{ReusesHidden};
 ghost use Rattle.genie_inputs.specs.Posting.{IsAnswered};
 
-use crate::buffer::lend_strongly;
 use crate::call::Call;
+use crate::hidden::lend_held;
 use crate::laws::input_laws;
 use crate::place::{add_region, find_place};
 use crate::posting::post;
@@ -22,13 +24,13 @@ use genie_kernel::Kernel;
 use genie_region::RegionState;
 use genie_room::laws::objects_suffice;
 use genie_spaces::laws::region_laws;
-use genie_spaces::room::make_room;
 use genie_store::Store;
 
 /// Posts an input of move semantics, basic or emulated. A region of zeros is reserved for it, held until the data has come,
 /// at the lowest place in the system area. On an early device frames of the system are lent, from which the data moves into
-/// the region; on another device nothing is lent. Where the store fails, nothing is posted or reserved, and what processes
-/// and devices see is as before.
+/// the region; on another device nothing is lent. An emulated call on an early device takes these frames from a region that
+/// its process moved out of the same place before, unless memory is short. Where the store fails, nothing is posted or
+/// reserved, and what processes and devices see is as before.
 pub fn hold<S: Store>(kernel: &mut Kernel, store: &mut S, call: Call) -> Reply<'static>
     requires class { class_of call.sem ≡ Move }
     requires good { IsGood kernel.old }
@@ -38,14 +40,15 @@ pub fn hold<S: Store>(kernel: &mut Kernel, store: &mut S, call: Call) -> Reply<'
     requires accepted { refuse (outline kernel.old) (input_event call None) ≡ None }
     ensures answered { IsAnswered kernel.old kernel.new (S.view store.old) (S.view store.new) (input_event call None) result }
     ensures cause { StoreCause (mark_of result) (S.view store.old).faults (S.view store.new).faults }
+    ensures rises { MetersRise (2 ^ 36) kernel.old.memory.frames kernel.new.memory.frames }
+    ensures reuses { ReusesHidden kernel.old kernel.new call result }
 {
     input_laws();
     region_laws();
     objects_suffice();
     let id = TransferId(kernel.next);
     let place = find_place(kernel, call);
-    make_room(kernel, call.pid);
-    match lend_strongly(kernel, store, id, call.dev, 0, call.len) {
+    match lend_held(kernel, store, id, call, place) {
         Ok(loans) => {
             add_region(kernel, call.pid, place, RegionState::Held);
             post(kernel, call.transfer(id, 0, Some(place.id), 0, loans));

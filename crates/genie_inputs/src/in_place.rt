@@ -11,6 +11,7 @@ ghost use Rattle.genie_plan.specs.Plans.{times, input_frames};
 ghost use Rattle.genie_model.specs.Lemmas.Lists.{Has};
 ghost use Rattle.genie_kernel.specs.Good.{IsGood};
 ghost use Rattle.genie_kernel.specs.Regions.{owned_regions};
+ghost use Rattle.genie_kernel.specs.Rising.{MetersRise};
 ghost use Rattle.genie_changes.specs.Making.{IsMoved};
 ghost use Rattle.genie_inputs.specs.Places.{CanBeWired, LendsPages, Wires};
 
@@ -56,6 +57,7 @@ pub(crate) fn lend_in_place<S: Store>(
     ensures lends { IfOk result (LendsPages kernel.old kernel.new (S.view store.old) (S.view store.new) region off len basic) }
     ensures moved { OnErr result (IsMoved kernel.old kernel.new (S.view store.old) (S.view store.new)) }
     ensures cause { HasCause (S.view store.old).faults (S.view store.new).faults result }
+    ensures rises { MetersRise (2 ^ 21) kernel.old.memory.frames kernel.new.memory.frames }
 {
     memory_moves();
     moves_join();

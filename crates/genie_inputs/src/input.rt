@@ -10,9 +10,11 @@ ghost use Rattle.genie_object.specs.Sound.{IsSized};
 ghost use Rattle.genie_model.specs.Refusing.{refuse};
 ghost use Rattle.genie_kernel.specs.Good.{IsGood};
 ghost use Rattle.genie_kernel.specs.Kept.{Kept};
+ghost use Rattle.genie_kernel.specs.Rising.{MetersRise};
 ghost use Rattle.genie_kernel.specs.Steps.{StepsTold, StoreCause};
 ghost use Rattle.genie_kernel.specs.View.{outline, view};
 ghost use Rattle.genie_inputs.specs.Calls.{input_event};
+ghost use Rattle.genie_inputs.specs.HiddenReuse.{ReusesHidden};
 ghost use Rattle.genie_inputs.specs.Posting.{IsAnswered};
 
 use crate::call::Call;
@@ -36,6 +38,7 @@ fn input_at<S: Store>(kernel: &mut Kernel, store: &mut S, call: Call, addr: u32)
     requires accepted { refuse (outline kernel.old) (input_event call (Some addr)) ≡ None }
     ensures answered { IsAnswered kernel.old kernel.new (S.view store.old) (S.view store.new) (input_event call (Some addr)) result }
     ensures cause { StoreCause (mark_of result) (S.view store.old).faults (S.view store.new).faults }
+    ensures rises { MetersRise (2 ^ 36) kernel.old.memory.frames kernel.new.memory.frames }
 {
     match call.sem.class() {
         Class::Copy => copy(kernel, store, call, addr),
@@ -55,6 +58,7 @@ fn input_weakly<S: Store>(kernel: &mut Kernel, store: &mut S, call: Call) -> Rep
     requires accepted { refuse (outline kernel.old) (input_event call None) ≡ None }
     ensures answered { IsAnswered kernel.old kernel.new (S.view store.old) (S.view store.new) (input_event call None) result }
     ensures cause { StoreCause (mark_of result) (S.view store.old).faults (S.view store.new).faults }
+    ensures rises { MetersRise (2 ^ 36) kernel.old.memory.frames kernel.new.memory.frames }
 {
     match find_reusable(kernel, call) {
         Some(region) => refill(kernel, store, call, region),
@@ -72,6 +76,8 @@ fn input_anywhere<S: Store>(kernel: &mut Kernel, store: &mut S, call: Call) -> R
     requires accepted { refuse (outline kernel.old) (input_event call None) ≡ None }
     ensures answered { IsAnswered kernel.old kernel.new (S.view store.old) (S.view store.new) (input_event call None) result }
     ensures cause { StoreCause (mark_of result) (S.view store.old).faults (S.view store.new).faults }
+    ensures rises { MetersRise (2 ^ 36) kernel.old.memory.frames kernel.new.memory.frames }
+    ensures reuses { ReusesHidden kernel.old kernel.new call result }
 {
     match call.sem.class() {
         Class::Copy => unreachable!(),
@@ -107,6 +113,10 @@ pub fn input<S: Store>(
     ensures config { kernel.new.config ≡ kernel.old.config }
     ensures step { (host : HostView) → StepsTold (view kernel.old host (S.view store.old)) (event.Input pid sem dev port flow addr len) (view kernel.new host (S.view store.new)) result }
     ensures cause { StoreCause (mark_of result) (S.view store.old).faults (S.view store.new).faults }
+    ensures rises { MetersRise (2 ^ 36) kernel.old.memory.frames kernel.new.memory.frames }
+
+    // An input by emulated move uses the frames of a hidden region again.
+    ensures reuses { ReusesHidden kernel.old kernel.new (record { pid = pid; sem = sem; dev = dev; port = port; flow = flow; len = len }) result }
 {
     let call = Call {
         pid,

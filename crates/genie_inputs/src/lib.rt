@@ -3,8 +3,10 @@
 
 mod buffer;
 pub mod call;
+mod claim;
 pub mod copy;
 pub mod fill;
+mod hidden;
 pub mod hold;
 mod in_place;
 pub mod input;

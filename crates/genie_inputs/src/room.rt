@@ -6,6 +6,7 @@ ghost use Rattle.genie_hiding.specs.Rooms.{available};
 ghost use Rattle.genie_object.specs.Costs.{AreBelow};
 ghost use Rattle.genie_object.specs.Sound.{IsSized};
 ghost use Rattle.genie_kernel.specs.Good.{IsGood};
+ghost use Rattle.genie_kernel.specs.Rising.{MetersRise};
 ghost use Rattle.genie_room.specs.Rooms.{HasRoom};
 ghost use Rattle.genie_changes.specs.Making.{IsMoved};
 
@@ -30,6 +31,7 @@ pub(crate) fn make_free<S: Store>(
     ensures room { HasRoom kernel.old kernel.new.memory }
     ensures meters { AreBelow (2 ^ 63 + 2 ^ 20) kernel.new.memory.frames.meters }
     ensures cause { HasCause (S.view store.old).faults (S.view store.new).faults result }
+    ensures rises { MetersRise (2 ^ 13) kernel.old.memory.frames kernel.new.memory.frames }
 {
     memory_moves();
     places_suffice();

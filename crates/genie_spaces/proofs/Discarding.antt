@@ -1,8 +1,8 @@
 -- The hidden regions of a process, dropped.
-use Rattle.std.proofs.Common.{◌≡◌, ℕ, ◌+◌, ◌-◌, ◌<◌, ◌≤◌, suc, Bool, true, false, not, cond, List, [], ◌∷◌, ◌++◌, refl, sym, ap, ap₂, subst, arith, rules, ◌∙◌, map, length, get_or, inl, inr, ⊎_elim, eq-eqb, filter, find}
-use Rattle.std.specs.Prelude.{Option, Some, None, All, IfSome, ◌==◌, ◌&&◌, count_by, nat_lt, if◌then◌else◌, slice_index, nat_le}
+use Rattle.std.proofs.Common.{◌≡◌, ℕ, ◌+◌, ◌-◌, ◌<◌, ◌≤◌, zero, suc, Bool, true, false, not, cond, List, [], ◌∷◌, ◌++◌, refl, sym, ap, ap₂, subst, arith, rules, ◌∙◌, map, length, get_or, inl, inr, ⊎_elim, eq-eqb, filter, find}
+use Rattle.std.specs.Prelude.{Option, Some, None, All, IfSome, ◌==◌, ◌&&◌, count_by, nat_lt, if◌then◌else◌, slice_index, nat_le, remove}
 use Rattle.std.specs.List.{list_any}
-use Rattle.std.proofs.lemmas.Bool.{cases_Bool, cond_both, and_parts}
+use Rattle.std.proofs.lemmas.Bool.{cases_Bool, cond_both, and_parts, eqb-true, ne_eqb}
 use Rattle.std.proofs.lemmas.List.Sums.{sum_by-cons, sum_by-append}
 use Rattle.genie_base.specs.declared.semantics.Direction.{Direction}
 use Rattle.genie_base.specs.declared.semantics.Direction.TheVariants as direction
@@ -15,7 +15,7 @@ use Rattle.genie_frame.specs.declared.frame.Owner.TheVariants.{Free, Page, Syste
 use Rattle.genie_frame.specs.FrameTable.{FrameTable, owner_at, counts_at, bytes_at, is_held, is_page}
 use Rattle.genie_hiding.specs.declared.hidden.Hidden.{Hidden}
 use Rattle.genie_hiding.specs.Discarding.{Discards, is_object_of, has_object as has_hidden_object}
-use Rattle.genie_hiding.specs.Hidden.{is_of, others, objects_of}
+use Rattle.genie_hiding.specs.Hidden.{is_of, others, objects_of, no_hidden}
 use Rattle.genie_input.specs.Pools.{PoolState}
 use Rattle.genie_object.specs.declared.memory.Memory.{Memory}
 use Rattle.genie_object.specs.declared.objects.Entry.{Entry}
@@ -23,6 +23,7 @@ use Rattle.genie_object.specs.declared.pages.PageId.{PageId}
 use Rattle.genie_object.specs.declared.pages.Place.{Place}
 use Rattle.genie_object.specs.declared.pages.Place.TheVariants.{Zero}
 use Rattle.genie_object.specs.Costs.{place_of}
+use Rattle.genie_object.specs.Leaving.{Removes}
 use Rattle.genie_object.specs.Memory.{is_kept, frame_in, frame_of, entry_frame}
 use Rattle.genie_object.specs.Objects.{object_at, entry_at, is_absent}
 use Rattle.genie_object.specs.Pages.{page_at}
@@ -55,7 +56,7 @@ use Rattle.genie_kernel.specs.Lemmas.Keeping.{calls_kept, transfer_lent}
 use Rattle.genie_kernel.specs.Lemmas.Staying.{at_least, lends_kept, lent_true, pool_same, system_same, weak_held, weak_there}
 use Rattle.genie_changes.specs.Regions.{KeepsBytes}
 use Rattle.genie_kernel.specs.Steps.{bytes_over}
-use Rattle.genie_spaces.specs.Clearing.{Clears}
+use Rattle.genie_spaces.specs.Clearing.{Clears, HiddenRegionGoes}
 use Rattle.genie_spaces.proofs.Keeping.{keeps_bytes, kept_all}
 
 -- how many regions have an object, and how many hidden ones of the process
@@ -88,10 +89,10 @@ some_counted n e = grind (arith, rules, e)
 none_counted : (n : ℕ) → nat_lt 0 n ≡ false → n ≡ 0
 none_counted n e = grind (arith, rules, e)
 
-has_others : (p : ℕ) (r : Region) (hs : List Hidden) → Has r (map hidden_region (others p hs)) → Has r (map hidden_region hs)
-has_others p r [] h = h
-has_others p r (x ∷ hs) h = cond_both (not (is_of p x)) (x ∷ others p hs) (others p hs) (λ l. Has r (map hidden_region l) → Has r (map hidden_region (x ∷ hs)))
-    (λ t g. ⊎_elim inl (λ later. inr (has_others p r hs later)) g) (λ t g. inr (has_others p r hs g)) h
+has_others : (p : ℕ) (hs : List Hidden) (h : Hidden) → Has h (others p hs) → Has h hs
+has_others p [] h is = is
+has_others p (x ∷ hs) h is = cond_both (not (is_of p x)) (x ∷ others p hs) (others p hs) (λ l. Has h l → Has h (x ∷ hs))
+    (λ t g. ⊎_elim inl (λ later. inr (has_others p hs h later)) g) (λ t g. inr (has_others p hs h g)) is
 
 absent_same : (a b : List Entry) → length b ≡ length a → is_absent a ≡ is_absent b
 absent_same [] [] e = refl
@@ -110,11 +111,6 @@ none_hidden p (h ∷ hs) = let rest = none_hidden p hs in elim (is_of p h) as (�
   | true ↦ λ e. rest
   | false ↦ λ e. let v : num (is_of p h) ≡ 0 = ap num e in omega (arith, sum_by-cons (λ (x : Hidden). cond (is_of p x) 1 0) h (others p hs), rest, v)
 ] refl
-
-all_others : (P : Hidden → Type 0) (p : ℕ) (hs : List Hidden) → ((h : Hidden) → Has h hs → P h) → (h : Hidden) → Has h (others p hs) → P h
-all_others P p [] f h is = absurd is
-all_others P p (x ∷ hs) f h is = cond_both (not (is_of p x)) (x ∷ others p hs) (others p hs) (λ l. Has h l → P h)
-    (λ t g. ⊎_elim (λ e. f h (inl e)) (λ later. all_others P p hs (λ y i. f y (inr i)) h later) g) (λ t g. all_others P p hs (λ y i. f y (inr i)) h g) is
 
 -- a strong output has a strong loan on each of its frames
 strong_loan : (f : ℕ) (xs : List OutLoan) → All (λ (l : OutLoan). l.strong ≡ true) xs → Has f (output_frames xs) → 1 ≤ loan_times (output_loans xs) kind.Strong f
@@ -169,15 +165,31 @@ flat_same : (old new : ℕ → List ℕ) (fs : List ℕ) → ((j : ℕ) → j < 
 flat_same old new [] h = refl
 flat_same old new (f ∷ fs) h = ap₂ ◌++◌ (h 0 (omega arith)) (flat_same old new fs (λ j l. h (suc j) (omega (arith, l))))
 
-module _ (k : Kernel) (m : Memory) (p : ℕ) (good : IsGood k) (d : Discards (is_object_of p k.hidden) k.memory m) (fits : FitsHidden m (objects_of (others p k.hidden))) where
+-- those are left of the hidden regions whose objects aren't these
+pub record LeavesOut (objects : ℕ → Bool) (kept left : List Hidden) : Type 0 where
+  pub had : (h : Hidden) → Has h left → Has h kept
+  pub gone : ℕ → ℕ
+  pub split : (o : ℕ) → count_by (has_object o) (map hidden_region kept) ≡ count_by (has_object o) (map hidden_region left) + gone o
+  pub some : (o : ℕ) → objects o ≡ true → 1 ≤ gone o
+  pub none : (o : ℕ) → objects o ≡ false → gone o ≡ 0
+  pub fewer : (p : ℕ) → count_by (is_of p) left ≤ count_by (is_of p) kept
+
+hidden_had : (r : Region) (left kept : List Hidden) → ((h : Hidden) → Has h left → Has h kept) → Has r (map hidden_region left) → Has r (map hidden_region kept)
+hidden_had r [] kept f h = absurd h
+hidden_had r (x ∷ left) kept f (inl e) = subst (λ q. Has q (map hidden_region kept)) e (as_region x kept (f x (inl refl)))
+  where
+    as_region : (x : Hidden) (hs : List Hidden) → Has x hs → Has x.region (map hidden_region hs)
+    as_region x [] h = absurd h
+    as_region x (y ∷ hs) (inl e) = inl (ap hidden_region e)
+    as_region x (y ∷ hs) (inr h) = inr (as_region x hs h)
+hidden_had r (x ∷ left) kept f (inr h) = hidden_had r left kept (λ y i. f y (inr i)) h
+
+module _ (k : Kernel) (m : Memory) (objects : ℕ → Bool) (hid : List Hidden) (out : LeavesOut objects k.hidden hid) (good : IsGood k) (d : Discards objects k.memory m) (fits : FitsHidden m (objects_of hid)) where
   abbrev ps : List (Option (List Region))
   ps = k.spaces.processes
 
   abbrev owned : List Region
   owned = owned_regions ps
-
-  abbrev hid : List Hidden
-  hid = others p k.hidden
 
   abbrev cleared : Kernel
   cleared = record k { memory = m; hidden = hid }
@@ -203,40 +215,40 @@ module _ (k : Kernel) (m : Memory) (p : ℕ) (good : IsGood k) (d : Discards (is
     most = refl;
   }
 
-  split : (o : ℕ) → count_by (has_object o) (all_regions ps k.hidden) ≡ count_by (has_object o) (all_regions ps hid) + count_by (has_hidden_object p o) k.hidden
+  split : (o : ℕ) → count_by (has_object o) (all_regions ps k.hidden) ≡ count_by (has_object o) (all_regions ps hid) + out.gone o
   split o =
       let a = sum_by-append (λ (x : Region). num (has_object o x)) owned (map hidden_region k.hidden) in
       let b = sum_by-append (λ (x : Region). num (has_object o x)) owned (map hidden_region hid) in
-      omega (arith, a, b, hidden_split p o k.hidden)
+      omega (arith, a, b, out.split o)
 
   at_most : (o : ℕ) → count_by (has_object o) (all_regions ps k.hidden) ≤ 1
   at_most o = let one = good.backed.one o in omega (arith, one, one_most (is_absent (object_at k.memory.objects o)))
 
   -- the object of a region that stays isn't one of those
-  not_object : (r : Region) → Has r (all_regions ps hid) → is_object_of p k.hidden r.object.0 ≡ false
+  not_object : (r : Region) → Has r (all_regions ps hid) → objects r.object.0 ≡ false
   not_object r h = ⊎_elim
-      (λ (e : is_object_of p k.hidden r.object.0 ≡ true). absurd (omega (arith, some_counted (count_by (has_hidden_object p r.object.0) k.hidden) e, split r.object.0, at_most r.object.0, count_has r.object.0 r (all_regions ps hid) h refl)))
+      (λ (e : objects r.object.0 ≡ true). absurd (omega (arith, out.some r.object.0 e, split r.object.0, at_most r.object.0, count_has r.object.0 r (all_regions ps hid) h refl)))
       (λ e. e)
-      (cases_Bool (is_object_of p k.hidden r.object.0))
+      (cases_Bool (objects r.object.0))
 
-  not_owned : (r : Region) → Has r owned → is_object_of p k.hidden r.object.0 ≡ false
+  not_owned : (r : Region) → Has r owned → objects r.object.0 ≡ false
   not_owned r h = not_object r (has_left r owned (map hidden_region hid) h)
 
   was_there : (r : Region) → Has r (all_regions ps hid) → Has r (all_regions ps k.hidden)
-  was_there r h = ⊎_elim (λ a. has_left r owned (map hidden_region k.hidden) a) (λ b. has_right r owned (map hidden_region k.hidden) (has_others p r k.hidden b)) (has_either r owned (map hidden_region hid) h)
+  was_there r h = ⊎_elim (λ a. has_left r owned (map hidden_region k.hidden) a) (λ b. has_right r owned (map hidden_region k.hidden) (hidden_had r hid k.hidden out.had b)) (has_either r owned (map hidden_region hid) h)
 
   cleared_backed : AreBacked m.objects (all_regions ps hid)
   cleared_backed = record {
     each = λ j e l. let r : Region = get_or (all_regions ps hid) j e in let h = has_at (all_regions ps hid) j e l in d.sizes r.object.0 (not_object r h) ∙ all_has (IsBacked k.memory.objects) (all_regions ps k.hidden) good.backed.each r (was_there r h);
     some = λ j e l. let r : Region = get_or (all_regions ps hid) j e in let h = has_at (all_regions ps hid) j e l in all_has (λ (x : Region). 0 < x.pages) (all_regions ps k.hidden) good.backed.some r (was_there r h);
     one = λ o. ⊎_elim
-        (λ (e : is_object_of p k.hidden o ≡ true).
+        (λ (e : objects o ≡ true).
         let gone : present (object_at m.objects o) ≡ 0 = ap present (d.gone o e) in
-        omega (arith, gone, some_counted (count_by (has_hidden_object p o) k.hidden) e, split o, at_most o))
-        (λ (e : is_object_of p k.hidden o ≡ false).
+        omega (arith, gone, out.some o e, split o, at_most o))
+        (λ (e : objects o ≡ false).
         let same : present (object_at k.memory.objects o) ≡ present (object_at m.objects o) = ap (λ b. if b then 0 else 1) (absent_same (object_at k.memory.objects o) (object_at m.objects o) (d.sizes o e)) in
-        omega (arith, same, none_counted (count_by (has_hidden_object p o) k.hidden) e, split o, good.backed.one o))
-        (cases_Bool (is_object_of p k.hidden o));
+        omega (arith, same, out.none o e, split o, good.backed.one o))
+        (cases_Bool (objects o));
   }
 
   cleared_guarded : AreGuarded m.objects owned
@@ -281,8 +293,8 @@ module _ (k : Kernel) (m : Memory) (p : ℕ) (good : IsGood k) (d : Discards (is
     sound = d.sound;
     cached = fits;
     few = record {
-      process = λ j e l. all_others (λ (h : Hidden). h.pid < 16) p k.hidden (all_has (λ (h : Hidden). h.pid < 16) k.hidden good.few.process) (get_or hid j e) (has_at hid j e l);
-      few = λ n. let was = good.few.few n in omega (arith, was, fewer_hidden p n k.hidden);
+      process = λ j e l. all_has (λ (h : Hidden). h.pid < 16) k.hidden good.few.process (get_or hid j e) (out.had (get_or hid j e) (has_at hid j e l));
+      few = λ n. let was = good.few.few n in omega (arith, was, out.fewer n);
     };
     backed = cleared_backed;
     guarded = cleared_guarded;
@@ -392,9 +404,71 @@ module _ (k : Kernel) (m : Memory) (p : ℕ) (good : IsGood k) (d : Discards (is
     landed = ap (λ (t : FrameTable). t.landed) d.frames;
   }
 
+-- the hidden regions of a process go
+others_left : (p : ℕ) (kept : List Hidden) → LeavesOut (is_object_of p kept) kept (others p kept)
+others_left p kept = record {
+  had = has_others p kept;
+  gone = λ o. count_by (has_hidden_object p o) kept;
+  split = λ o. hidden_split p o kept;
+  some = λ o e. some_counted (count_by (has_hidden_object p o) kept) e;
+  none = λ o e. none_counted (count_by (has_hidden_object p o) kept) e;
+  fewer = λ n. fewer_hidden p n kept;
+}
+
 -- what the call leaves, as its contract says it
 pub discarded : (k : Kernel) (m : Memory) (hid : List Hidden) (p : ℕ) → IsGood k → hid ≡ others p k.hidden → Discards (is_object_of p k.hidden) k.memory m → FitsHidden m (objects_of hid) → Clears k (record k { memory = m; hidden = hid })
-discarded k m hid p good is d fits = subst (λ (l : List Hidden). Clears k (record k { memory = m; hidden = l })) (sym is) (clears k m p good d (subst (λ (l : List Hidden). FitsHidden m (objects_of l)) is fits))
+discarded k m hid p good is d fits = clears k m (is_object_of p k.hidden) hid (subst (LeavesOut (is_object_of p k.hidden) k.hidden) (sym is) (others_left p k.hidden)) good d fits
+
+-- one hidden region goes
+has_removed : (hs : List Hidden) (i : ℕ) (h : Hidden) → Has h (remove hs i) → Has h hs
+has_removed [] zero h is = is
+has_removed [] (suc i) h is = is
+has_removed (x ∷ hs) zero h is = inr is
+has_removed (x ∷ hs) (suc i) h (inl e) = inl e
+has_removed (x ∷ hs) (suc i) h (inr g) = inr (has_removed hs i h g)
+
+count_removed : (q : Hidden → Bool) (hs : List Hidden) (i : ℕ) → i < length hs → count_by q (remove hs i) + num (q (get_or hs i no_hidden)) ≡ count_by q hs
+count_removed q [] i l = absurd (omega arith)
+count_removed q (x ∷ hs) zero l = omega (arith, sum_by-cons (λ y. num (q y)) x hs)
+count_removed q (x ∷ hs) (suc i) l = omega (arith, sum_by-cons (λ y. num (q y)) x hs, sum_by-cons (λ y. num (q y)) x (remove hs i), count_removed q hs i (omega arith))
+
+count_mapped : (o : ℕ) (hs : List Hidden) → count_by (has_object o) (map hidden_region hs) ≡ count_by (λ (h : Hidden). has_object o h.region) hs
+count_mapped o [] = refl
+count_mapped o (h ∷ hs) = omega (arith, sum_by-cons (λ (x : Region). num (has_object o x)) h.region (map hidden_region hs), sum_by-cons (λ (x : Hidden). num (has_object o x.region)) h hs, count_mapped o hs)
+
+one_left : (kept : List Hidden) (i : ℕ) → i < length kept → LeavesOut (λ a. a == (get_or kept i no_hidden).region.object.0) kept (remove kept i)
+one_left kept i l =
+    let r : Region = (get_or kept i no_hidden).region in
+    record {
+      had = has_removed kept i;
+      gone = λ o. num (has_object o r);
+      split = λ o. let all = count_mapped o kept in let left = count_mapped o (remove kept i) in let one = count_removed (λ (h : Hidden). has_object o h.region) kept i l in omega (arith, all, left, one);
+      some = λ o e. let same : num (r.object.0 == o) ≡ 1 = ap num (eq-eqb r.object.0 o (sym (eqb-true o r.object.0 e))) in omega (arith, same);
+      none = λ o e. ap num (ne_eqb r.object.0 o (λ (same : r.object.0 ≡ o). let bad : (o == r.object.0) ≡ true = eq-eqb o r.object.0 (sym same) in cc));
+      fewer = λ p. let one = count_removed (is_of p) kept i l in omega (arith, one);
+    }
+
+-- an object that is taken away is one of those that a call takes away
+removed_discards : (old new : Memory) (o : ℕ) → Removes o old new → Discards (λ a. a == o) old new
+removed_discards old new o x = record {
+  sound = x.sound;
+  gone = λ a e. ap (object_at new.objects) (eqb-true a o e) ∙ x.gone;
+  entries = λ slots a b e. x.entries slots a b e;
+  others = λ a b e. x.others a b e;
+  places = λ a b e. x.places a b e;
+  touches = x.touches;
+  lent = x.lent;
+  systems = x.systems;
+  sizes = λ a e. x.sizes a (λ (same : a ≡ o). let bad : (a == o) ≡ true = eq-eqb a o same in cc);
+  frames = x.frames;
+  number = x.number;
+  slots = x.slots;
+  fewer = x.fewer;
+  most = x.most;
+}
+
+pub hidden_goes : HiddenRegionGoes
+hidden_goes k m i good l x fits = clears k m (λ a. a == (get_or k.hidden i no_hidden).region.object.0) (remove k.hidden i) (one_left k.hidden i l) good (removed_discards k.memory m (get_or k.hidden i no_hidden).region.object.0 x) fits
 
 pub clears_nothing : (k : Kernel) → IsGood k → Clears k k
 clears_nothing k good = record { good = good; only = refl; bytes = λ slots rests sents. keeps_bytes k (bytes_over k.memory slots rests sents); kept = kept_all k good; meters = refl; landed = refl }

@@ -16,3 +16,4 @@ mod Copying
 mod Ready
 mod Forked
 mod Ended
+mod Rising

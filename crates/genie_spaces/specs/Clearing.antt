@@ -1,8 +1,10 @@
 -- Room for one region more.
-use Rattle.std.specs.Prelude.{◌≡◌, ℕ, ◌+◌, ◌<◌, List, [], length, count_by, replicate, slice_set}
-use Rattle.genie_hiding.specs.Hidden.{is_of}
+use Rattle.std.specs.Prelude.{◌≡◌, ℕ, ◌+◌, ◌<◌, List, [], length, count_by, replicate, slice_set, slice_index_or, remove}
+use Rattle.genie_hiding.specs.Hidden.{is_of, no_hidden, objects_of}
+use Rattle.genie_object.specs.declared.memory.Memory.{Memory}
+use Rattle.genie_object.specs.Leaving.{Removes}
 use Rattle.genie_object.specs.Objects.{object_at, no_entry}
-use Rattle.genie_object.specs.Sound.{IsSound}
+use Rattle.genie_object.specs.Sound.{IsSound, FitsHidden}
 use Rattle.genie_region.specs.declared.region.Region.{Region}
 use Rattle.genie_space.specs.Spaces.{regions_of, set_regions}
 use Rattle.genie_changes.specs.Regions.{KeepsBytes, with_added}
@@ -23,6 +25,10 @@ pub record Clears (old new : Kernel) : Type 0 where
   pub kept : Kept old new
   pub meters : new.memory.frames.meters ≡ old.memory.frames.meters
   pub landed : new.memory.frames.landed ≡ old.memory.frames.landed
+
+-- so it is once one hidden region has gone, with its object
+abbrev pub HiddenRegionGoes : Type 0
+HiddenRegionGoes = (k : Kernel) (m : Memory) (i : ℕ) → IsGood k → i < length k.hidden → Removes (slice_index_or k.hidden i no_hidden).region.object.0 k.memory m → FitsHidden m (objects_of (remove k.hidden i)) → Clears k (record k { memory = m; hidden = remove k.hidden i })
 
 -- a region more of process p, with an object of untouched pages that is made for it
 pub record Adds (p : ℕ) (r : Region) (old new : Kernel) : Type 0 where

@@ -14,6 +14,7 @@ ghost use Rattle.genie_space.specs.Spaces.{is_alive, regions_of};
 ghost use Rattle.genie_model.specs.Refusing.{refuse};
 ghost use Rattle.genie_kernel.specs.Good.{IsGood};
 ghost use Rattle.genie_kernel.specs.Kept.{Kept};
+ghost use Rattle.genie_kernel.specs.Rising.{MetersRise};
 ghost use Rattle.genie_kernel.specs.Steps.{StepsTold, StoreCause};
 ghost use Rattle.genie_kernel.specs.View.{outline, view};
 ghost use Rattle.genie_spaces.specs.Clearing.{Clears};
@@ -117,6 +118,7 @@ pub fn fork<S: Store>(kernel: &mut Kernel, store: &mut S, pid: u32, child: u32) 
     // Nothing is copied but what a device holds, no page is got, and no byte lands.
     ensures meters { Spends (fork_work kernel.new pid) 0 (2 ^ 24) (2 ^ 11) kernel.old.memory.frames.meters kernel.new.memory.frames.meters }
     ensures landed { kernel.new.memory.frames.landed ≡ kernel.old.memory.frames.landed }
+    ensures rises { MetersRise (2 ^ 36) kernel.old.memory.frames kernel.new.memory.frames }
     ensures shared { result ≡ reply.Okay → SharesPages kernel.new pid child }
 {
     region_laws();

@@ -1,4 +1,5 @@
 //! What the events stand on.
+ghost use Rattle.genie_spaces.specs.Clearing.{HiddenRegionGoes};
 ghost use Rattle.genie_spaces.specs.ExitLaws.{ExitLaws, RemovalLaws};
 ghost use Rattle.genie_spaces.specs.RegionLaws.{RegionLaws};
 
@@ -23,6 +24,11 @@ pub fn region_laws()
     guarded_regions();
     held_over_regions();
 }
+
+/// All that a kernel stands for stays where one hidden region goes with its object.
+pub fn hidden_regions_go()
+    ensures { HiddenRegionGoes }
+{}
 
 // What a region less leaves of them.
 pub(crate) fn removal_laws()

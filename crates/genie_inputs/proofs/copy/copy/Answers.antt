@@ -1,4 +1,4 @@
-use Rattle.std.proofs.Common.{◌∙◌, ap, refl}
+use Rattle.std.proofs.Common.{◌∙◌, ap, refl, arith, ◌^◌}
 use Rattle.std.specs.Prelude.{Some}
 use Rattle.genie_base.specs.declared.semantics.Class.TheVariants.{Copy}
 use Rattle.genie_inputs.specs.Posting.{with_input}
@@ -6,6 +6,8 @@ use Rattle.genie_inputs.proofs.Accepted.{app_fits}
 use Rattle.genie_inputs.proofs.Answered.{fails}
 use Rattle.genie_inputs.proofs.Readied.{ready_moved}
 use Rattle.genie_inputs.proofs.Copying.{copy_answers, copy_room, copy_can_post}
+use Rattle.genie_kernel.specs.declared.kernel.Kernel.{Kernel}
+use Rattle.genie_inputs.proofs.Rising.{rises_between}
 use Rattle.genie_inputs.proofs.copy.copy.Goals as goal
 
 pub lend_strongly-requires-clause-fits : goal.lend_strongly-requires-clause-fits
@@ -25,3 +27,9 @@ returns-in-Ok-clause-answered g c = copy_answers c.input_laws.ensures c.args.ker
 
 pub returns-in-Err-clause-answered : goal.returns-in-Err-clause-answered
 returns-in-Err-clause-answered g c = fails c.input_laws.ensures c.args.kernel.now c.lend_strongly.new.kernel c.args.call (Some c.args.addr) (g.S.Store.view c.args.store.now) (g.S.Store.view c.lend_strongly.new.store) c.requires.accepted (ready_moved c.args.kernel.now c.lend_strongly.new.kernel (g.S.Store.view c.args.store.now) (g.S.Store.view c.lend_strongly.new.store) c.in-Err.ensures.moved)
+
+pub returns-in-Ok-clause-rises : goal.returns-in-Ok-clause-rises
+returns-in-Ok-clause-rises g c = rises_between (2 ^ 20) c.args.kernel.now.memory.frames c.args.kernel.now.memory.frames c.lend_strongly.new.kernel.memory.frames c.post.new.kernel.memory.frames refl refl (ap (λ (z : Kernel). z.memory.frames.meters) c.post.ensures) (ap (λ (z : Kernel). z.memory.frames.landed) c.post.ensures) (omega arith) c.lend_strongly.ensures.rises
+
+pub returns-in-Err-clause-rises : goal.returns-in-Err-clause-rises
+returns-in-Err-clause-rises g c = rises_between (2 ^ 20) c.args.kernel.now.memory.frames c.args.kernel.now.memory.frames c.lend_strongly.new.kernel.memory.frames c.lend_strongly.new.kernel.memory.frames refl refl refl refl (omega arith) c.lend_strongly.ensures.rises

@@ -1,4 +1,4 @@
-use Rattle.std.proofs.Common.{◌≡◌, ◌∙◌, ap, refl, not, subst, true}
+use Rattle.std.proofs.Common.{◌≡◌, ◌∙◌, ap, refl, not, subst, true, arith, ◌^◌}
 use Rattle.std.specs.Prelude.{None, is_some}
 use Rattle.genie_base.specs.declared.numbers.RegionId.{RegionId}
 use Rattle.genie_region.specs.declared.region.Region.{Region}
@@ -10,6 +10,8 @@ use Rattle.genie_inputs.proofs.Accepted.{may_input}
 use Rattle.genie_inputs.proofs.Filling.{fill_answers, fill_can_post, fill_failed, new_alive, new_good, new_owned, new_room, new_there}
 use Rattle.genie_inputs.proofs.Holding.{may_add}
 use Rattle.genie_inputs.proofs.Placing.{may_place}
+use Rattle.genie_frame.specs.FrameTable.{FrameTable}
+use Rattle.genie_inputs.proofs.Rising.{rises_between}
 use Rattle.genie_inputs.proofs.fill.fill.Goals as goal
 
 pub make_room-requires-clause-alive : goal.make_room-requires-clause-alive
@@ -65,3 +67,9 @@ returns-in-Ok-clause-answered g c = fill_answers c.input_laws.ensures c.region_l
 
 pub returns-in-Err-clause-answered : goal.returns-in-Err-clause-answered
 returns-in-Err-clause-answered g c = fill_failed c.input_laws.ensures c.region_laws.ensures c.good_kernels_are_settled.ensures.settled c.args.kernel.now c.make_room.new.kernel c.add_region-object.new.kernel c.args.call c.find_place-place.result c.add_region-object.result c.live_region-region.result c.requires.good c.requires.class c.requires.accepted c.requires.made c.find_place-place.ensures c.make_room.ensures.clears c.make_room.ensures.room c.add_region-object.ensures c.live_region-region.ensures c.removed_regions.ensures.settles c.removed_regions.ensures.keeps c.removed_regions.ensures.shows c.removed_regions.ensures.outlines c.removed_regions.ensures.state c.good_kernels_are_settled.ensures.good c.lend_in_place.new.kernel c.remove_region.new.kernel (g.S.Store.view c.args.store.now) (g.S.Store.view c.lend_in_place.new.store) c.in-Err.ensures.moved (g.met.S.Store.paged c.lend_in_place.new.store) c.remove_region.ensures
+
+pub returns-in-Ok-clause-rises : goal.returns-in-Ok-clause-rises
+returns-in-Ok-clause-rises g c = rises_between (2 ^ 21) c.args.kernel.now.memory.frames c.add_region-object.new.kernel.memory.frames c.lend_in_place.new.kernel.memory.frames c.post.new.kernel.memory.frames (ap (λ (z : Kernel). z.memory.frames.meters) c.add_region-object.ensures.added ∙ c.make_room.ensures.clears.meters) (ap (λ (z : Kernel). z.memory.frames.landed) c.add_region-object.ensures.added ∙ c.make_room.ensures.clears.landed) (ap (λ (z : Kernel). z.memory.frames.meters) c.post.ensures ∙ ap (λ (z : Kernel). z.memory.frames.meters) c.set_in.ensures) (ap (λ (z : Kernel). z.memory.frames.landed) c.post.ensures ∙ ap (λ (z : Kernel). z.memory.frames.landed) c.set_in.ensures) (omega arith) c.lend_in_place.ensures.rises
+
+pub returns-in-Err-clause-rises : goal.returns-in-Err-clause-rises
+returns-in-Err-clause-rises g c = rises_between (2 ^ 21) c.args.kernel.now.memory.frames c.add_region-object.new.kernel.memory.frames c.lend_in_place.new.kernel.memory.frames c.remove_region.new.kernel.memory.frames (ap (λ (z : Kernel). z.memory.frames.meters) c.add_region-object.ensures.added ∙ c.make_room.ensures.clears.meters) (ap (λ (z : Kernel). z.memory.frames.landed) c.add_region-object.ensures.added ∙ c.make_room.ensures.clears.landed) (ap (λ (z : FrameTable). z.meters) c.remove_region.ensures.object.frames) (ap (λ (z : FrameTable). z.landed) c.remove_region.ensures.object.frames) (omega arith) c.lend_in_place.ensures.rises

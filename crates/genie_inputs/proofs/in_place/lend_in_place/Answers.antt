@@ -1,4 +1,7 @@
+use Rattle.std.proofs.Common.{arith, ◌^◌}
 use Rattle.genie_inputs.proofs.Lending.{can_wire, lend_failed, lends_pages, moved_within, object_there}
+use Rattle.genie_kernel.specs.Lemmas.Rising.{rises_most, rises_twice}
+use Rattle.genie_inputs.proofs.Rising.{lent_most, rises_lent, rises_wired}
 use Rattle.genie_inputs.proofs.in_place.lend_in_place.Goals as goal
 
 pub in_place-lent-requires-clause-within : goal.in_place-lent-requires-clause-within
@@ -17,3 +20,12 @@ returns-in-Err-lent-clause-moved g c = lend_failed c.memory_moves.ensures.calls 
 
 pub returns-in-Ok-lent-clause-lends : goal.returns-in-Ok-lent-clause-lends
 returns-in-Ok-lent-clause-lends g c = lends_pages c.wires_show_what_was_seen.ensures.on c.args.kernel.now c.make_free.new.kernel c.in_place-lent.new.memory c.wire_plan.new.memory c.guard.new.objects c.args.region c.args.off c.args.len c.args.basic c.in-Ok-lent.plan (g.S.Store.view c.args.store.now) (g.S.Store.view c.make_free.new.store) (g.S.Store.view c.in_place-lent.new.store) c.make_free.ensures.moved c.in-Ok-lent.ensures.lent c.in-Ok-lent.ensures.lies c.guard.ensures c.wire_plan.ensures c.in_place-lent.ensures.sized c.in_place-lent.ensures.seen
+
+pub returns-in-Err-clause-rises : goal.returns-in-Err-clause-rises
+returns-in-Err-clause-rises g c = rises_most (2 ^ 13) (2 ^ 21) c.args.kernel.now.memory.frames c.make_free.new.kernel.memory.frames (omega arith) c.make_free.ensures.rises
+
+pub returns-in-Err-lent-clause-rises : goal.returns-in-Err-lent-clause-rises
+returns-in-Err-lent-clause-rises g c = rises_twice (2 ^ 13) (2 ^ 20) (2 ^ 21) c.args.kernel.now.memory.frames c.make_free.new.kernel.memory.frames c.in_place-lent.new.memory.frames (omega arith) c.make_free.ensures.rises (rises_lent _ _ _ c.make_free.new.kernel.memory c.in_place-lent.new.memory c.make_free.ensures.moved.good.sound (lent_most c.args.kernel.now c.make_free.new.kernel c.args.off c.args.len (g.S.Store.view c.args.store.now) (g.S.Store.view c.make_free.new.store) c.make_free.ensures.moved c.requires.most) c.in_place-lent.ensures.spends c.in_place-lent.ensures.landed)
+
+pub returns-in-Ok-lent-clause-rises : goal.returns-in-Ok-lent-clause-rises
+returns-in-Ok-lent-clause-rises g c = rises_wired c.args.basic _ (2 ^ 21) c.args.kernel.now.memory.frames _ c.wire_plan.new.memory c.wire_plan.ensures (rises_twice (2 ^ 13) (2 ^ 20) (2 ^ 21) c.args.kernel.now.memory.frames c.make_free.new.kernel.memory.frames c.in_place-lent.new.memory.frames (omega arith) c.make_free.ensures.rises (rises_lent _ _ _ c.make_free.new.kernel.memory c.in_place-lent.new.memory c.make_free.ensures.moved.good.sound (lent_most c.args.kernel.now c.make_free.new.kernel c.args.off c.args.len (g.S.Store.view c.args.store.now) (g.S.Store.view c.make_free.new.store) c.make_free.ensures.moved c.requires.most) c.in_place-lent.ensures.spends c.in_place-lent.ensures.landed))

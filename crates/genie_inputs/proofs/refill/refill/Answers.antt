@@ -1,4 +1,4 @@
-use Rattle.std.proofs.Common.{◌≡◌, ◌∙◌, ℕ, List, [], true, get_or, sym, ap, subst}
+use Rattle.std.proofs.Common.{◌≡◌, ◌∙◌, ℕ, List, [], true, get_or, sym, ap, subst, arith, refl, ◌^◌}
 use Rattle.std.specs.Prelude.{None, is_some, not}
 use Rattle.genie_hiding.specs.Queues.{is_in}
 use Rattle.genie_region.specs.Layouts.{region_of}
@@ -9,6 +9,7 @@ use Rattle.genie_inputs.proofs.Accepted.{may_input}
 use Rattle.genie_inputs.proofs.Answered.{fails}
 use Rattle.genie_inputs.proofs.Readied.{ready_moved}
 use Rattle.genie_inputs.proofs.Refilling.{process_low, refill_answers, refill_can_post, reused_found, reused_listed, reused_owned, reused_pages, weak_fits, weak_room, weak_within}
+use Rattle.genie_inputs.proofs.Rising.{rises_between}
 use Rattle.genie_inputs.proofs.refill.refill.Goals as goal
 
 pub lend_in_place-requires-clause-owned : goal.lend_in_place-requires-clause-owned
@@ -46,3 +47,9 @@ returns-in-Ok-clause-answered g c = refill_answers c.wires_show_what_was_seen.en
 
 pub returns-in-Err-clause-answered : goal.returns-in-Err-clause-answered
 returns-in-Err-clause-answered g c = fails c.input_laws.ensures c.args.kernel.now c.lend_in_place.new.kernel c.args.call None (g.S.Store.view c.args.store.now) (g.S.Store.view c.lend_in_place.new.store) c.requires.accepted (ready_moved c.args.kernel.now c.lend_in_place.new.kernel (g.S.Store.view c.args.store.now) (g.S.Store.view c.lend_in_place.new.store) c.in-Err.ensures.moved)
+
+pub returns-in-Ok-clause-rises : goal.returns-in-Ok-clause-rises
+returns-in-Ok-clause-rises g c = rises_between (2 ^ 21) c.args.kernel.now.memory.frames c.args.kernel.now.memory.frames c.lend_in_place.new.kernel.memory.frames c.post.new.kernel.memory.frames refl refl (ap (λ (z : Kernel). z.memory.frames.meters) c.post.ensures ∙ ap (λ (z : Kernel). z.memory.frames.meters) c.move_in.ensures) (ap (λ (z : Kernel). z.memory.frames.landed) c.post.ensures ∙ ap (λ (z : Kernel). z.memory.frames.landed) c.move_in.ensures) (omega arith) c.lend_in_place.ensures.rises
+
+pub returns-in-Err-clause-rises : goal.returns-in-Err-clause-rises
+returns-in-Err-clause-rises g c = rises_between (2 ^ 21) c.args.kernel.now.memory.frames c.args.kernel.now.memory.frames c.lend_in_place.new.kernel.memory.frames c.lend_in_place.new.kernel.memory.frames refl refl refl refl (omega arith) c.lend_in_place.ensures.rises

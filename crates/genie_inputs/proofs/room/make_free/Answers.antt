@@ -1,4 +1,5 @@
-use Rattle.std.proofs.Common.{ap}
+use Rattle.std.proofs.Common.{ap, arith, ◌^◌}
+use Rattle.genie_kernel.specs.Lemmas.Rising.{rises_moved}
 use Rattle.genie_inputs.proofs.room.make_free.Goals as goal
 
 pub returns-in-Ok-clause-moved : goal.returns-in-Ok-clause-moved
@@ -6,3 +7,9 @@ returns-in-Ok-clause-moved g c = c.memory_moves.ensures.room c.args.kernel.now (
 
 pub returns-in-Err-clause-moved : goal.returns-in-Err-clause-moved
 returns-in-Err-clause-moved g c = c.memory_moves.ensures.room c.args.kernel.now (record (c.args.kernel.now) { memory = c.make_room.new.memory; hidden = c.make_room.new.hidden; clock = c.make_room.new.clock }) (g.S.Store.view c.args.store.now) (g.S.Store.view c.make_room.new.store) c.requires.good c.requires.sized (ap (λ h. record (c.args.kernel.now) { memory = c.make_room.new.memory; hidden = h; clock = c.make_room.new.clock }) c.make_room.ensures.hidden) c.make_room.ensures.room
+
+pub returns-in-Ok-clause-rises : goal.returns-in-Ok-clause-rises
+returns-in-Ok-clause-rises g c = rises_moved 0 0 8192 0 (2 ^ 13) c.args.kernel.now.memory.frames c.make_room.new.memory.frames c.make_room.ensures.meters c.make_room.ensures.room.landed (omega arith)
+
+pub returns-in-Err-clause-rises : goal.returns-in-Err-clause-rises
+returns-in-Err-clause-rises g c = rises_moved 0 0 8192 0 (2 ^ 13) c.args.kernel.now.memory.frames c.make_room.new.memory.frames c.make_room.ensures.meters c.make_room.ensures.room.landed (omega arith)

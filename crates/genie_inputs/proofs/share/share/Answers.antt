@@ -1,9 +1,11 @@
-use Rattle.std.proofs.Common.{◌∙◌, ap}
+use Rattle.std.proofs.Common.{◌∙◌, ap, arith, refl, ◌^◌}
 use Rattle.std.specs.Prelude.{Some, not}
 use Rattle.genie_inputs.specs.Posting.{with_input}
 use Rattle.genie_inputs.proofs.Answered.{fails}
 use Rattle.genie_inputs.proofs.Readied.{ready_moved}
 use Rattle.genie_inputs.proofs.Sharing.{share_answers, share_can_post, share_owned, share_fits, share_room, share_within}
+use Rattle.genie_kernel.specs.declared.kernel.Kernel.{Kernel}
+use Rattle.genie_inputs.proofs.Rising.{rises_between}
 use Rattle.genie_inputs.proofs.share.share.Goals as goal
 
 pub lend_in_place-requires-clause-owned : goal.lend_in_place-requires-clause-owned
@@ -29,3 +31,9 @@ returns-in-Ok-clause-answered g c = share_answers c.wires_show_what_was_seen.ens
 
 pub returns-in-Err-clause-answered : goal.returns-in-Err-clause-answered
 returns-in-Err-clause-answered g c = fails c.input_laws.ensures c.args.kernel.now c.lend_in_place.new.kernel c.args.call (Some c.args.addr) (g.S.Store.view c.args.store.now) (g.S.Store.view c.lend_in_place.new.store) c.requires.accepted (ready_moved c.args.kernel.now c.lend_in_place.new.kernel (g.S.Store.view c.args.store.now) (g.S.Store.view c.lend_in_place.new.store) c.in-Err.ensures.moved)
+
+pub returns-in-Ok-clause-rises : goal.returns-in-Ok-clause-rises
+returns-in-Ok-clause-rises g c = rises_between (2 ^ 21) c.args.kernel.now.memory.frames c.args.kernel.now.memory.frames c.lend_in_place.new.kernel.memory.frames c.post.new.kernel.memory.frames refl refl (ap (λ (z : Kernel). z.memory.frames.meters) c.post.ensures) (ap (λ (z : Kernel). z.memory.frames.landed) c.post.ensures) (omega arith) c.lend_in_place.ensures.rises
+
+pub returns-in-Err-clause-rises : goal.returns-in-Err-clause-rises
+returns-in-Err-clause-rises g c = rises_between (2 ^ 21) c.args.kernel.now.memory.frames c.args.kernel.now.memory.frames c.lend_in_place.new.kernel.memory.frames c.lend_in_place.new.kernel.memory.frames refl refl refl refl (omega arith) c.lend_in_place.ensures.rises

@@ -1,4 +1,5 @@
 use Rattle.genie_spaces.proofs.Ended.{child_new, child_number, config_done, config_failed, drop_differ, drop_sound, drop_there, good_done, good_failed, kept_done, kept_failed, landed_done, landed_failed, meters_done, meters_failed, meters_mid, ready, shared_done, sized_done, sized_failed, sized_mid, tables_size, told_done, told_failed}
+use Rattle.genie_spaces.proofs.Rising.{rises_forked}
 use Rattle.genie_spaces.proofs.fork.fork.Goals as goal
 
 pub copy_pages-requires-clause-ready : goal.copy_pages-requires-clause-ready
@@ -72,3 +73,15 @@ returns-in-Err-clause-meters g c = meters_failed c.region_laws.ensures c.regions
 
 pub returns-in-Err-clause-landed : goal.returns-in-Err-clause-landed
 returns-in-Err-clause-landed g c = landed_failed c.region_laws.ensures c.regions_fit.ensures.regions c.args.kernel.now c.begin-copies.new.kernel c.args.pid c.args.child c.begin-copies.result c.requires.good c.requires.accepted c.begin-copies.ensures c.copy_pages.new.kernel c.copy_pages.ensures.only (g.S.Store.view c.args.store.now) (g.S.Store.view c.copy_pages.new.store) c.in-Err.ensures.failed c.drop_objects.new.memory c.drop_objects.ensures
+
+pub returns-in-Ok-clause-rises : goal.returns-in-Ok-clause-rises
+returns-in-Ok-clause-rises g c =
+    let good = good_done c.region_laws.ensures c.regions_fit.ensures.regions c.args.kernel.now c.begin-copies.new.kernel c.args.pid c.args.child c.begin-copies.result c.requires.good c.requires.accepted c.begin-copies.ensures c.copy_pages.new.kernel c.copy_pages.ensures.only (g.S.Store.view c.args.store.now) (g.S.Store.view c.copy_pages.new.store) c.in-Ok.ensures.copied c.add_child.new.kernel c.add_child.ensures c.memory_calls_keep_good.ensures.good in
+    let spent = meters_done c.region_laws.ensures c.regions_fit.ensures.regions c.args.kernel.now c.begin-copies.new.kernel c.args.pid c.args.child c.begin-copies.result c.requires.good c.requires.accepted c.begin-copies.ensures c.copy_pages.new.kernel c.copy_pages.ensures.only (g.S.Store.view c.args.store.now) (g.S.Store.view c.copy_pages.new.store) c.in-Ok.ensures.copied c.add_child.new.kernel c.add_child.ensures c.copy_pages.ensures.meters in
+    rises_forked c.regions_fit.ensures.regions c.args.kernel.now c.add_child.new.kernel c.args.pid good spent (landed_done c.region_laws.ensures c.regions_fit.ensures.regions c.args.kernel.now c.begin-copies.new.kernel c.args.pid c.args.child c.begin-copies.result c.requires.good c.requires.accepted c.begin-copies.ensures c.copy_pages.new.kernel c.copy_pages.ensures.only (g.S.Store.view c.args.store.now) (g.S.Store.view c.copy_pages.new.store) c.in-Ok.ensures.copied c.add_child.new.kernel c.add_child.ensures)
+
+pub returns-in-Err-clause-rises : goal.returns-in-Err-clause-rises
+returns-in-Err-clause-rises g c =
+    let good = good_failed c.region_laws.ensures c.regions_fit.ensures.regions c.args.kernel.now c.begin-copies.new.kernel c.args.pid c.args.child c.begin-copies.result c.requires.good c.requires.accepted c.begin-copies.ensures c.copy_pages.new.kernel c.copy_pages.ensures.only (g.S.Store.view c.args.store.now) (g.S.Store.view c.copy_pages.new.store) c.in-Err.ensures.failed c.drop_objects.new.memory c.drop_objects.ensures c.memory_calls_keep_good.ensures.good in
+    let spent = meters_failed c.region_laws.ensures c.regions_fit.ensures.regions c.args.kernel.now c.begin-copies.new.kernel c.args.pid c.args.child c.begin-copies.result c.requires.good c.requires.accepted c.begin-copies.ensures c.copy_pages.new.kernel c.copy_pages.ensures.only (g.S.Store.view c.args.store.now) (g.S.Store.view c.copy_pages.new.store) c.in-Err.ensures.failed c.drop_objects.new.memory c.drop_objects.ensures c.copy_pages.ensures.meters in
+    rises_forked c.regions_fit.ensures.regions c.args.kernel.now (record (c.copy_pages.new.kernel) { memory = c.drop_objects.new.memory }) c.args.pid good spent (landed_failed c.region_laws.ensures c.regions_fit.ensures.regions c.args.kernel.now c.begin-copies.new.kernel c.args.pid c.args.child c.begin-copies.result c.requires.good c.requires.accepted c.begin-copies.ensures c.copy_pages.new.kernel c.copy_pages.ensures.only (g.S.Store.view c.args.store.now) (g.S.Store.view c.copy_pages.new.store) c.in-Err.ensures.failed c.drop_objects.new.memory c.drop_objects.ensures)
