@@ -34,6 +34,7 @@ narrowed old mid os o off bytes x h = record {
     most = x.keeps.most;
   };
   touches = touches_on _ old mid (with_entries mid os) x.touches (touches_more (λ a b. false) _ mid (with_entries mid os) (λ a b e. refl) (narrowed_touches mid os h));
+  rises = x.rises;
 }
 
 pub bytes_filled : (old clear mid : Memory) (os : List (List Entry)) (o off n : ℕ) (bytes : List ℕ) → ClearsObject old clear o → StoresBytes clear mid o off bytes → n ≡ length (object_at mid.objects o) → Forbids o n mid.objects os → FillsBytes old (with_entries mid os) o off bytes

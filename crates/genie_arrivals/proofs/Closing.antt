@@ -1,5 +1,5 @@
 -- The end of a copy input is one step, also where the store fails.
-use Rattle.std.proofs.Common.{◌≡◌, ℕ, ◌+◌, ◌/◌, ◌≤◌, List, refl, sym, ap, subst, ◌∙◌, length, get_or, false, true}
+use Rattle.std.proofs.Common.{◌≡◌, ℕ, ◌+◌, ◌/◌, ◌^◌, ◌≤◌, List, refl, sym, ap, subst, arith, ◌∙◌, length, get_or, false, true}
 use Rattle.std.specs.Prelude.{Option, Some, None, All, find}
 use Rattle.std.specs.Option.{option_map}
 use Rattle.genie_base.specs.Bytes.{overlaid}
@@ -32,10 +32,12 @@ use Rattle.genie_kernel.specs.Calls.{has_number, is_strong_call}
 use Rattle.genie_kernel.specs.Good.{IsGood}
 use Rattle.genie_kernel.specs.Loans.{frames_of}
 use Rattle.genie_kernel.specs.Regions.{owned_regions}
+use Rattle.genie_kernel.specs.Rising.{MetersRise}
 use Rattle.genie_kernel.specs.Steps.{AloneIsTold, StepsTold, StoreCause, Steps, bytes_over}
 use Rattle.genie_kernel.specs.View.{Bytes, outline, state_of, view}
 use Rattle.genie_kernel.specs.Backed.{AreGuarded}
 use Rattle.genie_kernel.specs.Lemmas.Keeping.{guards_kept}
+use Rattle.genie_kernel.specs.Lemmas.Rising.{rises_most, rises_on, rises_same}
 use Rattle.genie_kernel.specs.Lemmas.Stepping.{accepted_step}
 use Rattle.genie_changes.specs.Ending.{without_call}
 use Rattle.genie_changes.specs.Making.{IsMoved}
@@ -60,14 +62,15 @@ failed_step k n None h = tt
 failed_step k n (Some b) h = accepted_step k b (Finish n) (state_of k b) reply.StoreFault h (record { state = refl; reply_is = refl })
 
 -- where the store fails nothing has changed
-pub fault_serves : (k new : Kernel) (v w : StoreView) (n : ℕ) → refuse (outline k) (Finish n) ≡ None → IsMoved k new v w → Rose v.faults w.faults → Serves k (Finish n) new v w reply.StoreFault
-fault_serves k new v w n accepted moved rose = record {
+pub fault_serves : (k new : Kernel) (v w : StoreView) (n : ℕ) → refuse (outline k) (Finish n) ≡ None → IsMoved k new v w → MetersRise (2 ^ 22) k.memory.frames new.memory.frames → Rose v.faults w.faults → Serves k (Finish n) new v w reply.StoreFault
+fault_serves k new v w n accepted moved rises rose = record {
   good = moved.good;
   sized = moved.sized;
   kept = moved.kept;
   config = ap (λ (j : Kernel). j.config) moved.only;
   step = λ host. subst (λ x. StepsTold (view k host v) (Finish n) x reply.StoreFault) (sym (moved.told host)) (failed_step k n _ accepted);
   cause = rose;
+  rises = rises_most (2 ^ 22) (2 ^ 36) k.memory.frames new.memory.frames (omega arith) rises;
 }
 
 -- an end that asks neither the host nor the store
@@ -79,6 +82,7 @@ alone_serves told k new v n r accepted sized e = record {
   config = e.config;
   step = λ host. told k new (Finish n) r host v accepted e.config e.step;
   cause = subst (λ (m : Mark). StoreCause m v.faults v.faults) (sym e.unfailed) refl;
+  rises = rises_same (2 ^ 36) k.memory.frames new.memory.frames e.meters e.landed;
 }
 
 -- the transfer that is taken out is the one that was aimed at
@@ -149,8 +153,8 @@ module _ (laws : EndLaws) (room : CopyLaws) (swap : SwapLaws) (told : PagedIsTol
       let two = subst (λ (s : Seen). Steps (state_of mid (record { seen = s; rests = rests; sents = sents })) (Finish n) (state_of new (record { seen = seen m p; rests = rests; sents = sents })) answer) (seen_padded mid.memory slots mid.memory.frames.page (length mid.memory.slots) g.sound refl) one in
       subst (λ (s : Seen). Steps (state_of mid (bytes_over mid.memory slots rests sents)) (Finish n) (state_of new (record { seen = s; rests = rests; sents = sents })) answer) (seen_padded m slots mid.memory.frames.page (length mid.memory.slots) stores.sound (sym stores.keeps.slots)) two
 
-  pub stored_serves : Serves k (Finish n) new v w answer
-  stored_serves =
+  pub stored_serves : MetersRise (2 ^ 22) k.memory.frames mid.memory.frames → Serves k (Finish n) new v w answer
+  stored_serves rises =
       let refused = refused_alike k mid v w n moved accepted in
       record {
         good = laws.good new (swapped_settled laws swap mid n t g found ready taken.is.early strong L h.is_loans h.is_frames h.own m range.object.0 range.off range.len stores unhidden guarded) (orderly_after laws room mid n t range g found ready taken.is.early taken.is.class_is taken.is.inward taken.target m refused);
@@ -159,6 +163,7 @@ module _ (laws : EndLaws) (room : CopyLaws) (swap : SwapLaws) (told : PagedIsTol
         config = ap (λ (j : Kernel). j.config) moved.only;
         step = λ host. subst (λ s. StepsTold s (Finish n) (view new host w) answer) (moved.told host) (told mid new (Finish n) answer host w refused refl moved.sized paged steps_paged);
         cause = faults;
+        rises = rises_most (2 ^ 22 + 2 ^ 20) (2 ^ 36) k.memory.frames m.frames (omega arith) (rises_on (2 ^ 22) (2 ^ 20) k.memory.frames mid.memory.frames m.frames rises x.rises);
       }
 
 -- the same over slots that have a page each
@@ -170,4 +175,5 @@ paged_serves told k new v n r accepted sized paged e = record {
   config = e.config;
   step = λ host. told k new (Finish n) r host v accepted e.config sized paged e.step;
   cause = subst (λ (m : Mark). StoreCause m v.faults v.faults) (sym e.unfailed) refl;
+  rises = rises_most (2 ^ 35) (2 ^ 36) k.memory.frames new.memory.frames (omega arith) e.rises;
 }

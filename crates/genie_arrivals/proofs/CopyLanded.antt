@@ -1,5 +1,5 @@
 -- A copy input on an outboard device ends, whose bytes are stored in its range.
-use Rattle.std.proofs.Common.{◌≡◌, ℕ, ◌+◌, ◌-◌, ◌*◌, ◌/◌, ◌≤◌, Bool, true, false, List, [], refl, sym, ap, subst, ◌∙◌, length, take, find, get_or, inl, inr}
+use Rattle.std.proofs.Common.{◌≡◌, ℕ, ◌+◌, ◌-◌, ◌*◌, ◌/◌, ◌^◌, ◌≤◌, Bool, true, false, List, [], refl, sym, ap, subst, arith, ◌∙◌, length, take, find, get_or, inl, inr}
 use Rattle.std.specs.Prelude.{All, Some, None, ◌⊎◌, if◌then◌else◌}
 use Rattle.std.specs.Option.{option_map}
 use Rattle.genie_base.specs.Bytes.{overlaid}
@@ -38,6 +38,8 @@ use Rattle.genie_kernel.specs.Steps.{StepsTold, bytes_over}
 use Rattle.genie_kernel.specs.Transfers.{buffer_bytes, input_bytes, payload_of}
 use Rattle.genie_kernel.specs.View.{Bytes, no_bytes, outline, state_of, view}
 use Rattle.genie_kernel.specs.Lemmas.Keeping.{guards_kept, transfer_lent}
+use Rattle.genie_kernel.specs.Rising.{MetersRise}
+use Rattle.genie_kernel.specs.Lemmas.Rising.{rises_most, rises_on}
 use Rattle.genie_changes.specs.Making.{IsMoved}
 use Rattle.genie_changes.specs.Paged.{HavePages, IsPaged, PagedIsTold, StepsPaged}
 use Rattle.genie_changes.specs.Released.{BuffersShow, ReleasedEnds, ReleasedShows}
@@ -59,6 +61,7 @@ use Rattle.genie_arrivals.proofs.Putting.{PutsBytes, put_state}
 use Rattle.genie_arrivals.proofs.Reaching.{write_view}
 use Rattle.genie_arrivals.proofs.Readying.{is_roomy, other_object, range_silent, range_unhidden, target_backed, target_owned, unspoken}
 use Rattle.genie_arrivals.proofs.Replying.{input_finish, outcome, quiet_steps}
+use Rattle.genie_arrivals.proofs.Rising.{rises_back}
 use Rattle.genie_arrivals.proofs.WeakPlan.{outboard_at}
 use Rattle.genie_arrivals.proofs.Written.{lent_kept, pooled_kept, written, written_good}
 
@@ -209,12 +212,13 @@ module _ (laws : EndLaws) (show : BuffersShow) (end : ReleasedEnds) (release : R
     steps_paged : StepsPaged mid (Finish n) last answer
     steps_paged slots rests sents have = quiet_steps (state_of mid (bytes_over mid.memory slots rests sents)) (state_of last (bytes_over last.memory slots rests sents)) n answer (model.put (without_transfer (state_of mid (bytes_over mid.memory slots rests sents)) n) r.id.0 off payload) (fin (bytes_over mid.memory slots rests sents)) refl (shown slots rests sents have)
 
-    pub copy_landed : Serves k (Finish n) new v w answer
-    copy_landed = subst (λ (j : Kernel). Serves k (Finish n) j v w answer) (sym z.only) (record {
+    pub copy_landed : MetersRise (2 ^ 22) k.memory.frames mid.memory.frames → Serves k (Finish n) new v w answer
+    copy_landed rises = subst (λ (j : Kernel). Serves k (Finish n) j v w answer) (sym z.only) (record {
       good = laws.good last last_settled orderly;
       sized = record { count = moved.sized.count ∙ sym x.keeps.slots; page = moved.sized.page ∙ sym x.keeps.page ∙ sym (z.back.loans.page ∙ z.back.wires.only.page) };
       kept = room.kept k mid last v w moved last_kept;
       config = ap (λ (j : Kernel). j.config) moved.only;
       step = λ host. subst (λ s. StepsTold s (Finish n) (view last host w) answer) (moved.told host) (told mid last (Finish n) answer host w refused refl moved.sized paged steps_paged);
       cause = faults;
+      rises = rises_most (2 ^ 22 + 2 ^ 34) (2 ^ 36) k.memory.frames new.memory.frames (omega arith) (rises_on (2 ^ 22) (2 ^ 34) k.memory.frames mid.memory.frames new.memory.frames rises (rises_back (2 ^ 34) t mid.memory.frames m.frames new.memory.frames x.rises z.back));
     })

@@ -1,5 +1,5 @@
 -- A weak input on an outboard device ends, whose bytes have landed in the region that it names.
-use Rattle.std.proofs.Common.{◌≡◌, ℕ, ◌+◌, ◌*◌, ◌≤◌, true, false, List, [], refl, sym, ap, subst, arith, ◌∙◌, length, take, find, eqb-true}
+use Rattle.std.proofs.Common.{◌≡◌, ℕ, ◌+◌, ◌*◌, ◌^◌, ◌≤◌, true, false, List, [], refl, sym, ap, subst, arith, ◌∙◌, length, take, find, eqb-true}
 use Rattle.std.specs.Prelude.{Option, Some, None, IfSome, slice_index_or, if◌then◌else◌}
 use Rattle.std.specs.Option.{option_map, option_and_then}
 use Rattle.std.proofs.lemmas.List.{length-take}
@@ -32,7 +32,9 @@ use Rattle.genie_kernel.specs.declared.transfer.Transfer.{Transfer}
 use Rattle.genie_kernel.specs.Calls.{first_waiting, has_number, is_strong_call, region_number}
 use Rattle.genie_kernel.specs.Good.{IsGood}
 use Rattle.genie_kernel.specs.Kept.{Kept, KeepsOwner}
+use Rattle.genie_kernel.specs.Planned.{FitsDevice}
 use Rattle.genie_kernel.specs.Regions.{has_id, owned_regions, region_view}
+use Rattle.genie_kernel.specs.Rising.{MetersRise}
 use Rattle.genie_kernel.specs.Steps.{bytes_over}
 use Rattle.genie_kernel.specs.Transfers.{buffer_bytes, input_bytes, is_outboard_device, payload_of}
 use Rattle.genie_kernel.specs.View.{Bytes, state_of, outline, no_bytes}
@@ -53,7 +55,9 @@ use Rattle.genie_arrivals.proofs.Landing.{landed, landed_sound, landed_state, mi
 use Rattle.genie_arrivals.proofs.Lively.{live_good, live_state}
 use Rattle.genie_arrivals.proofs.Moving.{IsHad, is_had}
 use Rattle.genie_arrivals.proofs.Paging.{padded, padded_paged, seen_padded}
+use Rattle.genie_arrivals.proofs.Reaching.{most_page}
 use Rattle.genie_arrivals.proofs.Replying.{early_view, found_finish, numbered_view, outcome, quiet_steps}
+use Rattle.genie_arrivals.proofs.Rising.{rises_back, rises_lands}
 use Rattle.genie_arrivals.proofs.WeakPlan.{is_waiting, outboard_at}
 
 -- a share input on a device that isn't early, whose region is there
@@ -105,6 +109,17 @@ module _ (k : Kernel) (n : ℕ) (t : Transfer) (g : IsGood k) (found : find (has
       let less = few in
       omega (arith, most, less)
 
+  -- and it has at most 64 pages' bytes
+  small : length bytes ≤ 2 ^ 20
+  small =
+      let at = outboard_at k t.dev g outboard in
+      let fits : FitsDevice t.len (entry k.devices t.dev) = all_has (λ (u : Transfer). FitsDevice u.len (entry k.devices u.dev)) k.transfers g.fitting t (find_has (has_number n) k.transfers t found).0 in
+      let long : t.len ≤ at.view.limit = subst (FitsDevice t.len) at.there fits in
+      let limit = at.limit in
+      let page = most_page k g in
+      let less = short in
+      omega (arith, long, limit, page, less)
+
   -- its payload is what lies in its device's memory
   pub payload_is : (b : Bytes) (buffer : ℕ) → t.buffer ≡ Some buffer → (seen_as k b t).payload ≡ bytes
   payload_is b buffer mine =
@@ -154,6 +169,11 @@ module _ (laws : EndLaws) (show : BuffersShow) (end : ReleasedEnds) (release : R
     last_landed : IfSome (find (has_number n) k.transfers) (λ (u : Transfer). new.memory.frames.landed ≤ k.memory.frames.landed + u.stored)
     last_landed = subst (λ (o : Option Transfer). IfSome o (λ (u : Transfer). new.memory.frames.landed ≤ k.memory.frames.landed + u.stored)) (sym found)
         (let a = x.back.loans.landed in let b = x.back.wires.only.landed in let most = most_landed k n t g found inward outboard weak F payload landing in let less = few k n t g found inward outboard in omega (arith, a, b, most, less))
+
+    last_rises : MetersRise (2 ^ 35) k.memory.frames new.memory.frames
+    last_rises =
+        let few : length payload ≤ 2 ^ 35 = (let most = small k n t g found inward outboard in omega (arith, most)) in
+        rises_back (2 ^ 35) t k.memory.frames F new.memory.frames (rises_lands (length payload) (2 ^ 35) k.memory.frames F few (same_meters k n t g found inward outboard weak F payload landing) (most_landed k n t g found inward outboard weak F payload landing)) x.back
 
     module _ (owner : t.owner ≡ Some p) (q : Region) (names : region_number t ≡ Some q.id.0) (there : find (has_id q.id.0) (owned_regions k.spaces.processes) ≡ Some q) where
       -- what is seen afterwards, over slots that have a page each
@@ -212,6 +232,7 @@ module _ (laws : EndLaws) (show : BuffersShow) (end : ReleasedEnds) (release : R
             step = λ slots rests sents have. quiet_steps (state_of k (bytes_over k.memory slots rests sents)) (state_of last (bytes_over last.memory slots rests sents)) n answer (put (without_transfer (state_of k (bytes_over k.memory slots rests sents)) n) q.id.0 t.offset payload) (share_fin (bytes_over k.memory slots rests sents)) refl (shown slots rests sents have);
             config = refl;
             unfailed = refl;
+            rises = last_rises;
           };
           meters = x.back.loans.meters ∙ x.back.wires.only.meters ∙ same_meters k n t g found inward outboard weak F payload landing;
           landed = last_landed;
@@ -262,6 +283,7 @@ module _ (laws : EndLaws) (show : BuffersShow) (end : ReleasedEnds) (release : R
             step = λ slots rests sents have. quiet_steps (state_of k (bytes_over k.memory slots rests sents)) (state_of moved (bytes_over last.memory slots rests sents)) n moved_answer (turned (put (without_transfer (state_of k (bytes_over k.memory slots rests sents)) n) q.id.0 t.offset payload)) (moved_fin (bytes_over k.memory slots rests sents)) refl (live_of (bytes_over last.memory slots rests sents) ∙ ap turned (shown slots rests sents have));
             config = refl;
             unfailed = refl;
+            rises = last_rises;
           };
           meters = x.back.loans.meters ∙ x.back.wires.only.meters ∙ same_meters k n t g found inward outboard weak F payload landing;
           landed = last_landed;

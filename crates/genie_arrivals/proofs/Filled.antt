@@ -54,6 +54,7 @@ use Rattle.genie_kernel.specs.Regions.{has_id, object_bytes, owned_regions, regi
 use Rattle.genie_kernel.specs.Same.{SameNeeded}
 use Rattle.genie_kernel.specs.Steps.{Steps, bytes_over}
 use Rattle.genie_kernel.specs.View.{Bytes, no_bytes, outline, state_of}
+use Rattle.genie_kernel.specs.Lemmas.Rising.{rises_most, rises_same}
 use Rattle.genie_kernel.specs.Lemmas.Keeping.{calls_kept, hidden_kept}
 use Rattle.genie_kernel.specs.Lemmas.Staying.{memory_good, system_same}
 use Rattle.genie_changes.specs.Ending.{ShowsOthers, without_call}
@@ -82,6 +83,7 @@ use Rattle.genie_arrivals.proofs.Owning.{has_owned}
 use Rattle.genie_arrivals.proofs.Paging.{padded, padded_paged, seen_padded}
 use Rattle.genie_arrivals.proofs.Putting.{processes_put}
 use Rattle.genie_arrivals.proofs.Quiet.{unbuffered}
+use Rattle.genie_arrivals.proofs.Rising.{rises_owners}
 use Rattle.genie_arrivals.proofs.Reaching.{most_page, some_page, span_within}
 use Rattle.genie_arrivals.proofs.Readying.{other_object, span_less, stored_most, unspoken}
 use Rattle.genie_arrivals.proofs.Replying.{input_finish, numbered_view, outcome, quiet_steps, regions_seen}
@@ -420,11 +422,12 @@ module _ (laws : EndLaws) (change : ChangeLaws) (room : CopyLaws) (swap : SwapLa
       step = steps_paged;
       config = refl;
       unfailed = refl;
+      rises = rises_owners (2 ^ 35) k.memory.frames fills.clear.frames m3.frames c.empties.frames (rises_most (2 ^ 20) (2 ^ 35) fills.clear.frames m3.frames (omega arith) fills.stores.rises);
     }
 
 -- an end that leaves all bytes as they are
 pub alone_ends : (k new : Kernel) (n : ℕ) (a : Reply) → EndsAlone k n new a → EndsPaged k n new a
-alone_ends k new n a e = record { good = e.good; sized = e.sized; kept = e.kept; step = λ slots rests sents have. e.step slots rests sents; config = e.config; unfailed = e.unfailed }
+alone_ends k new n a e = record { good = e.good; sized = e.sized; kept = e.kept; step = λ slots rests sents have. e.step slots rests sents; config = e.config; unfailed = e.unfailed; rises = rises_same (2 ^ 35) k.memory.frames new.memory.frames e.meters e.landed }
 
 -- the object of a region is there
 pub object_there : (objects : List (List Entry)) (o pages : ℕ) → length (object_at objects o) ≡ pages → 0 < pages → object_at objects o ≢ []

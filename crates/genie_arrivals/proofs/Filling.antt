@@ -35,6 +35,7 @@ narrowed old mid os o off len frames x h = record {
     most = x.keeps.most;
   };
   touches = touches_on _ old mid (with_entries mid os) x.touches (touches_more (λ a b. false) _ mid (with_entries mid os) (λ a b e. refl) (narrowed_touches mid os h));
+  rises = x.rises;
 }
 
 pub object_filled : (old clear mid : Memory) (os : List (List Entry)) (o len n : ℕ) (frames : List ℕ) → ClearsObject old clear o → StoresBuffer clear mid o 0 len frames → n ≡ length (object_at mid.objects o) → Forbids o n mid.objects os → FillsObject old (with_entries mid os) o len frames

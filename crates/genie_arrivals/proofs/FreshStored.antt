@@ -23,6 +23,8 @@ use Rattle.genie_plan.specs.Plans.{CanLand, OnlyRange, range_bytes, times}
 use Rattle.genie_plan.specs.Lemmas.Ending.{some_or}
 use Rattle.genie_plan.specs.Lemmas.Landings.{lands_soundly, page_in, times_some}
 use Rattle.genie_plan.specs.Lemmas.Ranges.{input_there, range_length}
+use Rattle.genie_kernel.specs.Rising.{MetersRise}
+use Rattle.genie_kernel.specs.Lemmas.Rising.{rises_most, rises_on}
 use Rattle.genie_arrivals.specs.FreshStored.{CanStoreBytes, ShowsBytes, StoresBytes}
 use Rattle.genie_arrivals.specs.Stored.{CanStoreBuffer, StoresBuffer}
 
@@ -181,8 +183,8 @@ module _ (m : Memory) (t u : FrameTable) (n : ℕ) (fs : List ℕ) (first len : 
     touches_full : Touches (is_in_range o (off / m.frames.page) (span m.frames.page off (length bytes))) full new
     touches_full = subst (λ w. Touches (is_in_range o (off / m.frames.page) (span m.frames.page off w)) full new) size (subst (λ w. Touches (is_in_range o (off / w) (span w off len)) full new) same_page y.touches)
 
-    pub bytes_stored : StoresBytes m new o off bytes
-    bytes_stored = record {
+    pub bytes_stored : MetersRise (2 ^ 33) m.frames u → StoresBytes m new o off bytes
+    bytes_stored rises = record {
       sound = y.sound;
       shows = shows;
       keeps = keeps;
@@ -192,4 +194,5 @@ module _ (m : Memory) (t u : FrameTable) (n : ℕ) (fs : List ℕ) (first len : 
         outside = λ p out. z.outside p (record { there = out.there; named = out.named });
         counts = λ p f out at. same_all f.0;
       };
+      rises = rises_most (2 ^ 33 + 2 ^ 20) (2 ^ 34) m.frames new.frames (omega arith) (rises_on (2 ^ 33) (2 ^ 20) m.frames u new.frames rises y.rises);
     }

@@ -1,5 +1,5 @@
 -- Some frames of a buffer are stored, and the loans of the others end.
-use Rattle.std.proofs.Common.{◌≡◌, ℕ, ◌+◌, ◌-◌, ◌*◌, ◌/◌, ◌%◌, ◌<◌, ◌≤◌, zero, suc, true, false, List, [], ◌∷◌, ◌++◌, refl, sym, ap, subst, arith, rules, ◌∙◌, length, take, drop, get_or, ⊎_elim, length-append, length-drop, length-take, append_assoc}
+use Rattle.std.proofs.Common.{◌≡◌, ℕ, ◌+◌, ◌-◌, ◌*◌, ◌/◌, ◌%◌, ◌^◌, ◌<◌, ◌≤◌, zero, suc, true, false, List, [], ◌∷◌, ◌++◌, refl, sym, ap, subst, arith, rules, ◌∙◌, length, take, drop, get_or, ⊎_elim, length-append, length-drop, length-take, append_assoc}
 use Rattle.std.specs.Prelude.{count_by, ◌⊎◌, replicate, if◌then◌else◌, ◌==◌}
 use Rattle.std.proofs.lemmas.Bool.{cases_Bool}
 use Rattle.std.proofs.lemmas.List.Sums.{sum_by-cons}
@@ -27,6 +27,7 @@ use Rattle.genie_plan.specs.Plans.{input_frames, joined, range_bytes, times}
 use Rattle.genie_plan.specs.Lemmas.Ending.{some_or}
 use Rattle.genie_plan.specs.Lemmas.Landings.{times_some}
 use Rattle.genie_plan.specs.Lemmas.Ranges.{times_at}
+use Rattle.genie_kernel.specs.Rising.{MetersRise}
 use Rattle.genie_arrivals.specs.Stored.{ShowsBuffer, StoresBuffer}
 use Rattle.genie_arrivals.proofs.Alone.{input_times, none_strong, none_weak}
 
@@ -226,8 +227,8 @@ module _ (old mid : Memory) (o off len few : ℕ) (A B : List InLoan) (sound : I
             let all : length (bytes_at old.frames f ++ joined old.frames.bytes frames) ≡ length (bytes_at old.frames f) + length (joined old.frames.bytes frames) = length-append (bytes_at old.frames f) (joined old.frames.bytes frames) in
             grind (arith, one, more, all)
 
-    pub buffer_stored : StoresBuffer old new o off len (fa ++ fb)
-    buffer_stored = record {
+    pub buffer_stored : MetersRise (2 ^ 20) old.frames F → StoresBuffer old new o off len (fa ++ fb)
+    buffer_stored rises = record {
       sound = soundly mid F (input_loans B) x.sound shaped owned ended can_end;
       shows = shows;
       ended = λ f l. ⊎_elim
@@ -240,6 +241,7 @@ module _ (old mid : Memory) (o off len few : ℕ) (A B : List InLoan) (sound : I
           (some_or (times fb f));
       keeps = keeps;
       touches = touches;
+      rises = rises;
     }
 
 taken_all : {X : Type 0} (n : ℕ) (xs : List X) → length xs ≤ n → take n xs ≡ xs

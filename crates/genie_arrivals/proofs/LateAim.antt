@@ -37,7 +37,7 @@ use Rattle.genie_kernel.specs.Matching.{has_waiting, room_in}
 use Rattle.genie_model.specs.Pending.{is_ready}
 use Rattle.genie_arrivals.specs.Outboard.{CanFetch, IsLateOutboard, IsOutboardInput, fetched}
 use Rattle.genie_arrivals.proofs.Buffered.{has_some, waits_in}
-use Rattle.genie_arrivals.specs.Waiting.{IsLateGone, IsLateLost, LosesBytes}
+use Rattle.genie_arrivals.specs.Waiting.{IsLateGone, IsLateLost, IsWaiting, LosesBytes}
 use Rattle.genie_arrivals.specs.Targets.{HasNoTarget, HasNoTargetOf, IsPending, IsTarget, IsTargetOf}
 use Rattle.genie_arrivals.proofs.Lent.{lends_at}
 use Rattle.genie_arrivals.proofs.Readying.{IsRoomy, is_roomy, ready_shows, span_known}
@@ -69,15 +69,16 @@ late_moved k new n range v w moved a = subst (λ (z : Kernel). LateAim z n range
   target = record { pid = a.target.pid; owner = a.target.owner; region = a.target.region; reached = a.target.reached; object_is = a.target.object_is; place = a.target.place; size = a.target.size };
 })
 
--- nothing is lent for it
-pub strong_unlent : {class : Class} (k : Kernel) (n : ℕ) (t : Transfer) → IsGood k → find (has_number n) k.transfers ≡ Some t → IsOutboardInput class k.devices t → is_strong class ≡ true → t.loans ≡ Nothing
-strong_unlent k n t g found is strong_class =
+-- nothing is lent for a strong input on a device that isn't early
+pub waiting_unlent : (k : Kernel) (n : ℕ) (t : Transfer) → IsGood k → find (has_number n) k.transfers ≡ Some t → IsWaiting k.devices t → is_strong_call t ≡ true → t.loans ≡ Nothing
+waiting_unlent k n t g found waits strong =
     let lends = lends_at k t g (find_has (has_number n) k.transfers t found).0 in
-    let late = (is_waiting k t is.inward is.outboard).late in
-    let strong : is_strong_call t ≡ true = ap is_strong is.class_is ∙ strong_class in
-    let one : LendsInput k.config.page k.memory.frames.owners (is_early_device (entry k.devices t.dev)) t (is_strong_call t) = subst (Lends k.config.page k.memory.frames.owners (is_early_device (entry k.devices t.dev)) t) is.inward lends in
+    let one : LendsInput k.config.page k.memory.frames.owners (is_early_device (entry k.devices t.dev)) t (is_strong_call t) = subst (Lends k.config.page k.memory.frames.owners (is_early_device (entry k.devices t.dev)) t) waits.inward lends in
     let two : LendsStrongly k.config.page k.memory.frames.owners (is_early_device (entry k.devices t.dev)) t t.loans = subst (LendsInput k.config.page k.memory.frames.owners (is_early_device (entry k.devices t.dev)) t) strong one in
-    subst (λ b. LendsStrongly k.config.page k.memory.frames.owners b t t.loans) late two
+    subst (λ b. LendsStrongly k.config.page k.memory.frames.owners b t t.loans) waits.late two
+
+pub strong_unlent : {class : Class} (k : Kernel) (n : ℕ) (t : Transfer) → IsGood k → find (has_number n) k.transfers ≡ Some t → IsOutboardInput class k.devices t → is_strong class ≡ true → t.loans ≡ Nothing
+strong_unlent k n t g found is strong = waiting_unlent k n t g found (is_waiting k t is.inward is.outboard) (ap is_strong is.class_is ∙ strong)
 
 module _ (laws : CopyLaws) (k : Kernel) (n : ℕ) (range : Range) (g : IsGood k) (a : LateAim k n range) where
   pub late_roomy : IsRoomy k range

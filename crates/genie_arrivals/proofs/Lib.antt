@@ -24,6 +24,7 @@ mod Unlanded
 mod Lively
 mod Reaching
 mod Readying
+mod Rising
 mod Joining
 mod Swapped
 mod Putting
@@ -46,3 +47,4 @@ mod MoveLanded
 mod MoveAim
 mod MoveCases
 mod MoveEnds
+mod PooledMoveEnds

@@ -11,10 +11,12 @@ use Rattle.genie_finish.specs.Moves.{EmptyCanStore}
 use Rattle.genie_frame.specs.FrameTable.{FrameTable, is_free}
 use Rattle.genie_hiding.specs.Hidden.{objects_of}
 use Rattle.genie_hiding.specs.Rooms.{available}
+use Rattle.genie_object.specs.declared.memory.Memory.{Memory}
 use Rattle.genie_object.specs.declared.objects.Range.{Range}
 use Rattle.genie_object.specs.Costs.{AreBelow}
 use Rattle.genie_object.specs.Leaving.{IsUnheld}
 use Rattle.genie_object.specs.Objects.{object_at}
+use Rattle.genie_object.specs.Pages.{is_there}
 use Rattle.genie_object.specs.Lemmas.Works.{below_more}
 use Rattle.genie_region.specs.declared.region.Region.{Region}
 use Rattle.genie_space.specs.Translations.{IsBacked}
@@ -28,6 +30,7 @@ use Rattle.genie_orderly.specs.Lemmas.FoundRegions.{all_of, no_orphan_at}
 use Rattle.genie_orderly.specs.Orderly.{IsPlaced, IsTransfer, Lies, LiesInOrphan, LiesInRegion}
 use Rattle.genie_kernel.specs.declared.kernel.Kernel.{Kernel}
 use Rattle.genie_kernel.specs.declared.transfer.Loans.{Loans}
+use Rattle.genie_kernel.specs.declared.transfer.Loans.TheVariants.{Nothing}
 use Rattle.genie_kernel.specs.declared.transfer.Transfer.{Transfer}
 use Rattle.genie_kernel.specs.Asked.{cost_of}
 use Rattle.genie_kernel.specs.Backed.{all_regions}
@@ -39,6 +42,8 @@ use Rattle.genie_kernel.specs.View.{no_bytes, outline}
 use Rattle.genie_changes.specs.Making.{IsMoved}
 use Rattle.genie_room.specs.Bounds.{IsShort}
 use Rattle.genie_room.specs.Frames.{PendingAreAvailable, loan_count}
+use Rattle.genie_arrivals.specs.declared.owned.OwnedRegion.{OwnedRegion}
+use Rattle.genie_arrivals.specs.Blanks.{CanBlank}
 use Rattle.genie_arrivals.specs.Clearing.{ClearsObject}
 use Rattle.genie_arrivals.specs.CopyLaws.{CopyLaws}
 use Rattle.genie_arrivals.specs.EndLaws.{EndLaws}
@@ -48,7 +53,6 @@ use Rattle.genie_arrivals.specs.OutboardMove.{CanFill}
 use Rattle.genie_arrivals.specs.Pooled.{GoesTo, GoesToRegion}
 use Rattle.genie_arrivals.proofs.Filled.{object_there}
 use Rattle.genie_arrivals.proofs.Found.{found_case, is_over, seen_as}
-use Rattle.genie_arrivals.proofs.LateAim.{strong_unlent}
 use Rattle.genie_arrivals.proofs.Lively.{found_everywhere}
 use Rattle.genie_arrivals.proofs.MoveLanded.{cleared_good}
 use Rattle.genie_arrivals.proofs.Moving.{IsHad, is_had, region_in}
@@ -58,13 +62,25 @@ use Rattle.genie_arrivals.proofs.Readying.{span_less, stored_most}
 use Rattle.genie_arrivals.proofs.Replying.{numbered_view, regions_seen}
 use Rattle.genie_arrivals.proofs.Unheld.{region_unheld}
 
--- the move input that ends, and where its bytes go
+-- a move input that ends, and where its bytes go
+pub record RegionAim (k : Kernel) (n : ℕ) (range : Range) : Type 0 where
+  pub t : Transfer
+  pub found : find (has_number n) k.transfers ≡ Some t
+  pub ready : is_ready t.phase ≡ true
+  pub inward : t.dir ≡ direction.Inward
+  pub class_is : class_of t.sem ≡ Move
+  pub to : GoesToRegion k t range
+
+-- one on an outboard device
 pub record MoveAim (k : Kernel) (n : ℕ) (range : Range) : Type 0 where
   pub t : Transfer
   pub found : find (has_number n) k.transfers ≡ Some t
   pub ready : is_ready t.phase ≡ true
   pub is : IsOutboardInput Move k.devices t
   pub to : GoesToRegion k t range
+
+abbrev pub aim_region : (k : Kernel) (n : ℕ) (range : Range) → MoveAim k n range → RegionAim k n range
+aim_region k n range a = record { t = a.t; found = a.found; ready = a.ready; inward = a.is.inward; class_is = a.is.class_is; to = a.to }
 
 pub move_aim : (k : Kernel) (n : ℕ) (range : Range) → refuse (outline k) (Finish n) ≡ None → IsLateOutboard Move k n → GoesTo k n range → MoveAim k n range
 move_aim k n range accepted case place =
@@ -84,7 +100,7 @@ move_moved k new n range v w moved a = subst (λ (z : Kernel). MoveAim z n range
 product : (a b : ℕ) → 0 < a → 0 < b → 0 < a * b
 product a b l m = grind (arith, l, m)
 
-module _ (k : Kernel) (n : ℕ) (range : Range) (g : IsGood k) (a : MoveAim k n range) where
+module _ (k : Kernel) (n : ℕ) (range : Range) (g : IsGood k) (a : RegionAim k n range) where
   abbrev t : Transfer
   t = a.t
 
@@ -100,10 +116,10 @@ module _ (k : Kernel) (n : ℕ) (range : Range) (g : IsGood k) (a : MoveAim k n 
   there : Has t k.transfers
   there = (find_has (has_number n) k.transfers t a.found).0
 
-  region_owned : Has r (owned_regions k.spaces.processes)
+  pub region_owned : Has r (owned_regions k.spaces.processes)
   region_owned = has_owned r k.spaces.processes a.to.owned.pid aim_had.regions aim_had.there (find_has (has_id r.id.0) aim_had.regions r aim_had.found).0
 
-  region_backed : length (object_at k.memory.objects r.object.0) ≡ r.pages
+  pub region_backed : length (object_at k.memory.objects r.object.0) ≡ r.pages
   region_backed = all_has (IsBacked k.memory.objects) (all_regions k.spaces.processes k.hidden) g.backed.each r (has_left r (owned_regions k.spaces.processes) _ region_owned)
 
   region_some : 0 < r.pages
@@ -119,12 +135,12 @@ module _ (k : Kernel) (n : ℕ) (range : Range) (g : IsGood k) (a : MoveAim k n 
   at_start : t.offset ≡ 0
   at_start =
       let placed = (all_has IsTransfer (outline k).transfers g.orderly.calls v view_has).placed in
-      let one : IsPlaced direction.Inward (class_of t.sem) (addr_of t) t.offset = subst (λ d. IsPlaced d (class_of t.sem) (addr_of t) t.offset) a.is.inward placed in
-      let two : IsPlaced direction.Inward Move (addr_of t) t.offset = subst (λ c. IsPlaced direction.Inward c (addr_of t) t.offset) a.is.class_is one in
+      let one : IsPlaced direction.Inward (class_of t.sem) (addr_of t) t.offset = subst (λ d. IsPlaced d (class_of t.sem) (addr_of t) t.offset) a.inward placed in
+      let two : IsPlaced direction.Inward Move (addr_of t) t.offset = subst (λ c. IsPlaced direction.Inward c (addr_of t) t.offset) a.class_is one in
       two.1
 
   begins : begins_at t ≡ 0
-  begins = ap (λ (b : Bool). unwrap_or (if b then Some t.addr else None) t.offset) (λ i. is_copy_input (a.is.class_is i) (a.is.inward i)) ∙ at_start
+  begins = ap (λ (b : Bool). unwrap_or (if b then Some t.addr else None) t.offset) (λ i. is_copy_input (a.class_is i) (a.inward i)) ∙ at_start
 
   pub aim_start : range.off ≡ 0
   aim_start = a.to.place ∙ at_start
@@ -136,7 +152,7 @@ module _ (k : Kernel) (n : ℕ) (range : Range) (g : IsGood k) (a : MoveAim k n 
   aim_there = object_there k.memory.objects range.object.0 r.pages (ap (λ z. length (object_at k.memory.objects z)) object ∙ region_backed) region_some
 
   pub aim_unheld : (i : ℕ) → IsUnheld k.memory range.object.0 i
-  aim_unheld i = subst (λ z. IsUnheld k.memory z i) (sym object) (region_unheld k n t r g a.found (ap is_strong a.is.class_is) a.is.class_is aim_had.names region_owned i)
+  aim_unheld i = subst (λ z. IsUnheld k.memory z i) (sym object) (region_unheld k n t r g a.found (ap is_strong a.class_is) a.class_is aim_had.names region_owned i)
 
   module _ (laws : EndLaws) (change : ChangeLaws) (room : CopyLaws) where
     -- and ends in it
@@ -186,42 +202,75 @@ module _ (k : Kernel) (n : ℕ) (range : Range) (g : IsGood k) (a : MoveAim k n 
         let same = same_span in
         omega (arith, less, same)
 
-    most_pages : span page range.off range.len ≤ 65
-    most_pages =
+    pub aim_most : span page range.off range.len ≤ 65
+    aim_most =
         let touched : span page 0 t.len ≤ 65 = subst (λ z. span page z t.len ≤ 65) begins short.pages in
         let less = less_pages in
         omega (arith, less, touched)
 
-    -- each page of the range can have a frame
-    pub aim_frames : PendingAreAvailable → span page range.off range.len ≤ available k.memory.frames
-    aim_frames pending =
+    -- each page of the range can have a frame, where nothing is lent for it
+    pub aim_frames : PendingAreAvailable → t.loans ≡ Nothing → span page range.off range.len ≤ available k.memory.frames
+    aim_frames pending unlent =
         let free = all_has (λ (u : Transfer). cost_of k.config.page u + 4 ≤ available k.memory.frames + loan_count u) k.transfers (pending k g) t there in
-        let none : loan_count t ≡ 0 = ap (λ (l : Loans). length (frames_of l)) (strong_unlent k n t g a.found a.is refl) in
-        let costs : cost_of k.config.page t ≡ span k.config.page 0 t.len = (λ i. cost (a.is.class_is i) (a.is.inward i) (span k.config.page (begins i) t.len)) in
+        let none : loan_count t ≡ 0 = ap (λ (l : Loans). length (frames_of l)) unlent in
+        let costs : cost_of k.config.page t ≡ span k.config.page 0 t.len = (λ i. cost (a.class_is i) (a.inward i) (span k.config.page (begins i) t.len)) in
         let less = less_pages in
         omega (arith, free, none, costs, less)
+
+    -- there is room for as many pages more as frames were free, once the object was emptied
+    pub aim_room : (m : Memory) → ClearsObject k.memory m range.object.0 → count_by is_there m.pages.pages + count_by is_free k.memory.frames.owners ≤ m.pages.most
+    aim_room m c =
+        let good : IsGood (record k { memory = m }) = cleared_good k r g region_owned m (subst (ClearsObject k.memory m) object c) in
+        let places = room.buffers m (objects_of k.hidden) [] (room.places (record k { memory = m }) good) (λ j l. absurd (omega (arith, l))) (λ f. omega arith) in
+        omega (arith, places, c.free)
+
+    pub aim_size : (m : Memory) → ClearsObject k.memory m range.object.0 → length (object_at m.objects range.object.0) ≡ r.pages
+    aim_size m c = c.keeps.entries range.object.0 ∙ ap (λ z. length (object_at k.memory.objects z)) object ∙ region_backed
 
     -- and its bytes may be stored in the emptied object
     pub aim_can : EmptyCanStore → span page range.off range.len ≤ count_by is_free k.memory.frames.owners → AreBelow (2 ^ 63 + 2 ^ 20) k.memory.frames.meters → CanFill k.memory range
     aim_can can_empty free below m c =
-        let here : ClearsObject k.memory m r.object.0 = subst (ClearsObject k.memory m) object c in
-        let mid : Kernel = record k { memory = m } in
-        let good : IsGood mid = cleared_good k r g region_owned m here in
         let same : m.frames.page ≡ page = c.keeps.page ∙ g.sized.page in
-        let size : length (object_at m.objects range.object.0) ≡ r.pages = c.keeps.entries range.object.0 ∙ ap (λ z. length (object_at k.memory.objects z)) object ∙ region_backed in
         let within : range.off / m.frames.page + span m.frames.page range.off range.len ≤ r.pages = subst (λ z. z / m.frames.page + span m.frames.page z range.len ≤ r.pages) (sym aim_start) (aim_within m.frames.page range.len same a.to.size) in
         let pages : span m.frames.page range.off range.len ≡ span page range.off range.len = ap (λ z. span z range.off range.len) same in
         let meters : AreBelow (2 ^ 63 + 2 ^ 20) m.frames.meters = subst (AreBelow (2 ^ 63 + 2 ^ 20)) (sym (ap (λ (z : FrameTable). z.meters) c.empties.frames)) below in
-        let places = room.buffers m (objects_of k.hidden) [] (room.places mid good) (λ j l. absurd (omega (arith, l))) (λ f. omega arith) in
-        let most = most_pages in
+        let places = aim_room m c in
+        let most = aim_most in
         record {
           sound = c.empties.sound;
           fits = aim_fits;
-          within = subst (λ z. range.off / m.frames.page + span m.frames.page range.off range.len ≤ z) (sym size) within;
+          within = subst (λ z. range.off / m.frames.page + span m.frames.page range.off range.len ≤ z) (sym (aim_size m c)) within;
           most = omega (arith, pages, most);
           free = omega (arith, pages, free, c.free);
           can = can_empty m range.object.0 range.off range.len c.empties.sound c.empty;
-          room = omega (arith, pages, free, c.free, places);
+          room = omega (arith, pages, free, places);
           meters = below_more (2 ^ 63 + 2 ^ 20) (2 ^ 63 + 2 ^ 22) m.frames.meters (omega arith) meters;
           taken = omega (arith, meters.taken);
         }
+
+    -- or each page that they touch may get a page of zeros there
+    pub aim_blank : span page range.off range.len ≤ count_by is_free k.memory.frames.owners → AreBelow (2 ^ 63 + 2 ^ 20) k.memory.frames.meters → (m : Memory) → ClearsObject k.memory m range.object.0 → CanBlank m range.object.0 (span page range.off range.len)
+    aim_blank free below m c =
+        let within = stored_within in
+        let same = same_span in
+        let size = aim_size m c in
+        let places = aim_room m c in
+        let meters : AreBelow (2 ^ 63 + 2 ^ 20) m.frames.meters = subst (AreBelow (2 ^ 63 + 2 ^ 20)) (sym (ap (λ (z : FrameTable). z.meters) c.empties.frames)) below in
+        record {
+          sound = c.empties.sound;
+          within = omega (arith, within, same, size);
+          most = aim_most;
+          free = omega (arith, free, c.free);
+          room = omega (arith, free, places);
+          meters = below_more (2 ^ 63 + 2 ^ 20) (2 ^ 63 + 2 ^ 22) m.frames.meters (omega arith) meters;
+        }
+
+    -- and any process's region that it names is this one
+    pub aim_same : (o : OwnedRegion) → IsHad k t o → r ≡ o.region
+    aim_same o had =
+        let settled = laws.settled k g in
+        let number : o.region.id.0 ≡ r.id.0 = (let both : Some o.region.id.0 ≡ Some r.id.0 = sym had.names ∙ aim_had.names in cc) in
+        let here = found_everywhere change k settled o.pid had.regions o.region had.there had.found in
+        let there = found_everywhere change k settled a.to.owned.pid aim_had.regions r aim_had.there aim_had.found in
+        let found : Some r ≡ Some o.region = sym there ∙ sym (ap (λ j. find (has_id j) (owned_regions k.spaces.processes)) number) ∙ here in
+        cc

@@ -11,7 +11,6 @@ use Rattle.genie_kernel.specs.declared.kernel.Kernel.{Kernel}
 use Rattle.genie_kernel.specs.declared.transfer.Transfer.{Transfer}
 use Rattle.genie_kernel.specs.Calls.{has_number}
 use Rattle.genie_kernel.specs.Good.{IsGood}
-use Rattle.genie_kernel.specs.Regions.{has_id, owned_regions}
 use Rattle.genie_kernel.specs.View.{outline}
 use Rattle.genie_changes.specs.Released.{BuffersShow, ReleasedEnds, ReleasedShows}
 use Rattle.genie_arrivals.specs.declared.owned.OwnedRegion.{OwnedRegion}
@@ -26,8 +25,7 @@ use Rattle.genie_arrivals.specs.SwapLaws.{SwapLaws}
 use Rattle.genie_arrivals.specs.Waiting.{EndsWaiting}
 use Rattle.genie_arrivals.proofs.EndLanded.{same_call}
 use Rattle.genie_arrivals.proofs.Found.{found_case}
-use Rattle.genie_arrivals.proofs.Lively.{found_everywhere}
-use Rattle.genie_arrivals.proofs.MoveAim.{MoveAim, aim_had, aim_start, aim_within}
+use Rattle.genie_arrivals.proofs.MoveAim.{MoveAim, aim_had, aim_region, aim_same, aim_start, aim_within}
 use Rattle.genie_arrivals.proofs.MoveLanded.{filled_good, move_landed}
 use Rattle.genie_arrivals.proofs.Moving.{IsHad}
 use Rattle.genie_arrivals.proofs.PooledShare.{some_owner}
@@ -49,29 +47,19 @@ module _ (laws : EndLaws) (change : ChangeLaws) (room : CopyLaws) (swap : SwapLa
   fills =
       let one : FillsBytes k.memory full.memory range.object.0 range.off (waiting_bytes k.devices a.t) = subst (λ (u : Transfer). FillsBytes k.memory full.memory range.object.0 range.off (waiting_bytes k.devices u)) same x.fills in
       let two : FillsBytes k.memory full.memory r.object.0 range.off (waiting_bytes k.devices a.t) = subst (λ z. FillsBytes k.memory full.memory z range.off (waiting_bytes k.devices a.t)) object one in
-      subst (λ z. FillsBytes k.memory full.memory r.object.0 z (waiting_bytes k.devices a.t)) (aim_start k n range g a) two
+      subst (λ z. FillsBytes k.memory full.memory r.object.0 z (waiting_bytes k.devices a.t)) (aim_start k n range g (aim_region k n range a)) two
 
   process : (p : ℕ) × (a.t.owner ≡ Some p)
   process = some_owner a.t.owner (found_case (λ (u : Transfer). IsSome u.owner) k n a.t owner a.found)
 
   pub over_good : IsGood full
-  over_good = subst IsGood (sym x.only) (filled_good laws change swap show end release k n process.0 a.t a.to.owned full.memory g accepted a.found a.ready a.is process.1 (aim_had k n range g a) fills)
-
-  same_region : (o : OwnedRegion) → IsHad k a.t o → r ≡ o.region
-  same_region o had =
-      let mine = aim_had k n range g a in
-      let settled = laws.settled k g in
-      let number : o.region.id.0 ≡ r.id.0 = (let both : Some o.region.id.0 ≡ Some r.id.0 = sym had.names ∙ mine.names in cc) in
-      let here = found_everywhere change k settled o.pid had.regions o.region had.there had.found in
-      let there = found_everywhere change k settled a.to.owned.pid mine.regions r mine.there mine.found in
-      let found : Some r ≡ Some o.region = sym there ∙ sym (ap (λ j. find (has_id j) (owned_regions k.spaces.processes)) number) ∙ here in
-      cc
+  over_good = subst IsGood (sym x.only) (filled_good laws change swap show end release k n process.0 a.t a.to.owned full.memory g accepted a.found a.ready a.is process.1 (aim_had k n range g (aim_region k n range a)) fills)
 
   ends : (new : Kernel) (o : OwnedRegion) (had : IsHad k a.t o) → EndsWaiting n (record k { memory = full.memory }) new a.t → EndsPaged k n (lively new o.pid o.region.id.0 had.regions) (reply.Input (Some (o.region.start * k.config.page)) a.t.stored a.t.note)
   ends new o had z =
-      let region = same_region o had in
+      let region = aim_same k n range g (aim_region k n range a) laws change room o had in
       let its : FillsBytes k.memory full.memory o.region.object.0 0 (waiting_bytes k.devices a.t) = subst (λ (q : Region). FillsBytes k.memory full.memory q.object.0 0 (waiting_bytes k.devices a.t)) region fills in
-      let within : 0 / its.clear.frames.page + span its.clear.frames.page 0 (length (waiting_bytes k.devices a.t)) ≤ o.region.pages = subst (λ (q : Region). 0 / its.clear.frames.page + span its.clear.frames.page 0 (length (waiting_bytes k.devices a.t)) ≤ q.pages) region (aim_within k n range g a laws change room its.clear.frames.page (length (waiting_bytes k.devices a.t)) (its.clears.keeps.page ∙ g.sized.page) (sym size ∙ a.to.size)) in
+      let within : 0 / its.clear.frames.page + span its.clear.frames.page 0 (length (waiting_bytes k.devices a.t)) ≤ o.region.pages = subst (λ (q : Region). 0 / its.clear.frames.page + span its.clear.frames.page 0 (length (waiting_bytes k.devices a.t)) ≤ q.pages) region (aim_within k n range g (aim_region k n range a) laws change room its.clear.frames.page (length (waiting_bytes k.devices a.t)) (its.clears.keeps.page ∙ g.sized.page) (sym size ∙ a.to.size)) in
       move_landed laws change swap show end release k n process.0 a.t o full.memory g accepted a.found a.ready a.is process.1 had its within new z
 
   pub over_ends : (new : Kernel) (u : Transfer) (o : OwnedRegion) (had : IsHad k u o) → EndsWaiting n full new u → EndsPaged k n (lively new o.pid o.region.id.0 had.regions) (reply.Input (Some (o.region.start * k.config.page)) u.stored u.note)

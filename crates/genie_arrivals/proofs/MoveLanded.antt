@@ -1,5 +1,5 @@
 -- A move input on an outboard device ends, whose bytes were stored in its region.
-use Rattle.std.proofs.Common.{◌≡◌, ◌≢◌, ℕ, ◌+◌, ◌*◌, ◌/◌, ◌≤◌, Bool, true, false, List, [], refl, sym, ap, subst, ◌∙◌, length, get_or, ⊎_elim, eqb-true, ne_eqb}
+use Rattle.std.proofs.Common.{◌≡◌, ◌≢◌, ℕ, ◌+◌, ◌*◌, ◌/◌, ◌^◌, ◌≤◌, Bool, true, false, List, [], refl, sym, ap, subst, arith, ◌∙◌, length, get_or, ⊎_elim, eqb-true, ne_eqb}
 use Rattle.std.specs.Prelude.{Some, None, find, flat_map, replicate, ◌==◌}
 use Rattle.std.specs.List.{range_with_len}
 use Rattle.std.specs.Option.{option_map}
@@ -40,6 +40,7 @@ use Rattle.genie_kernel.specs.Steps.{Steps, bytes_over}
 use Rattle.genie_kernel.specs.View.{Bytes, no_bytes, outline, state_of}
 use Rattle.genie_kernel.specs.Lemmas.Keeping.{calls_kept, hidden_kept, transfer_lent}
 use Rattle.genie_kernel.specs.Lemmas.Staying.{memory_good}
+use Rattle.genie_kernel.specs.Lemmas.Rising.{rises_most}
 use Rattle.genie_changes.specs.Lemmas.Outside.{bytes_alike, unhidden}
 use Rattle.genie_changes.specs.Paged.{StepsPaged}
 use Rattle.genie_changes.specs.Released.{BuffersShow, ReleasedEnds, ReleasedShows}
@@ -65,6 +66,7 @@ use Rattle.genie_arrivals.proofs.Owning.{has_owned}
 use Rattle.genie_arrivals.proofs.Paging.{padded, padded_paged, seen_padded}
 use Rattle.genie_arrivals.proofs.Readying.{other_object, unspoken}
 use Rattle.genie_arrivals.proofs.Replying.{input_finish, outcome, quiet_steps}
+use Rattle.genie_arrivals.proofs.Rising.{rises_back, rises_owners}
 use Rattle.genie_arrivals.proofs.Written.{lent_kept, pooled_kept, written, written_good}
 use Rattle.genie_arrivals.proofs.Zeros.{zeros_each, zeros_overlaid, zeros_repeated}
 
@@ -267,4 +269,5 @@ module _ (laws : EndLaws) (change : ChangeLaws) (swap : SwapLaws) (show : Buffer
       step = steps_paged;
       config = refl;
       unfailed = refl;
+      rises = rises_most (2 ^ 34) (2 ^ 35) k.memory.frames new.memory.frames (omega arith) (rises_back (2 ^ 34) t k.memory.frames m3.frames new.memory.frames (rises_owners (2 ^ 34) k.memory.frames clear.frames m3.frames c.empties.frames fills.stores.rises) e.back);
     })

@@ -36,6 +36,8 @@ use Rattle.genie_kernel.specs.Regions.{owned_regions, region_view}
 use Rattle.genie_kernel.specs.Steps.{StepsTold, StoreCause}
 use Rattle.genie_kernel.specs.View.{Bytes, outline, state_of, view}
 use Rattle.genie_kernel.specs.Lemmas.Keeping.{guards_kept, hidden_kept}
+use Rattle.genie_kernel.specs.Rising.{MetersRise}
+use Rattle.genie_kernel.specs.Lemmas.Rising.{rises_most, rises_on}
 use Rattle.genie_changes.specs.Making.{IsMoved, ShowsAndLends}
 use Rattle.genie_changes.specs.Paged.{IsPaged, PagedIsTold}
 use Rattle.genie_changes.specs.Removing.{FitsTables}
@@ -189,14 +191,15 @@ module _ (room : CopyLaws) (k middle : Kernel) (n : ℕ) (t : Transfer) (range :
   copy_ends laws show end release new e = copied_ends k n t r range middle.memory copied laws show end release new e answer refl fin
 
 -- an end after pages have moved
-pub moved_serves : (room : CopyLaws) (told : PagedIsTold) (k mid new : Kernel) (v w : StoreView) (n : ℕ) (a : Reply) → refuse (outline k) (Finish n) ≡ None → IsMoved k mid v w → w.faults ≡ v.faults → IsPaged w → EndsPaged mid n new a → Serves k (Finish n) new v w a
-moved_serves room told k mid new v w n a accepted moved faults paged e = record {
+pub moved_serves : (room : CopyLaws) (told : PagedIsTold) (k mid new : Kernel) (v w : StoreView) (n : ℕ) (a : Reply) → refuse (outline k) (Finish n) ≡ None → IsMoved k mid v w → MetersRise (2 ^ 22) k.memory.frames mid.memory.frames → w.faults ≡ v.faults → IsPaged w → EndsPaged mid n new a → Serves k (Finish n) new v w a
+moved_serves room told k mid new v w n a accepted moved rises faults paged e = record {
   good = e.good;
   sized = e.sized w moved.sized;
   kept = room.kept k mid new v w moved e.kept;
   config = e.config ∙ ap (λ (z : Kernel). z.config) moved.only;
   step = λ host. subst (λ s. StepsTold s (Finish n) (view new host w) a) (moved.told host) (told mid new (Finish n) a host w (refused_alike k mid v w n moved accepted) e.config moved.sized paged e.step);
   cause = subst (λ (m : Mark). StoreCause m v.faults w.faults) (sym e.unfailed) faults;
+  rises = rises_most (2 ^ 22 + 2 ^ 35) (2 ^ 36) k.memory.frames new.memory.frames (omega arith) (rises_on (2 ^ 22) (2 ^ 35) k.memory.frames mid.memory.frames new.memory.frames rises e.rises);
 }
 
 -- what is known of the end of such an input once its pages are its region's own

@@ -1,5 +1,5 @@
 -- An input ends whose bytes were copied from a buffer of its device's pool to a region.
-use Rattle.std.proofs.Common.{◌≡◌, ℕ, ◌+◌, ◌/◌, ◌≤◌, true, false, List, refl, sym, ap, subst, ◌∙◌, length, drop}
+use Rattle.std.proofs.Common.{◌≡◌, ℕ, ◌+◌, ◌/◌, ◌^◌, ◌≤◌, true, false, List, refl, sym, ap, subst, arith, ◌∙◌, length, drop}
 use Rattle.std.specs.Prelude.{Some, None, find, flat_map, slice_index_or, if◌then◌else◌}
 use Rattle.std.specs.List.{range_with_len}
 use Rattle.std.specs.Option.{option_map, option_and_then}
@@ -40,8 +40,10 @@ use Rattle.genie_kernel.specs.Calls.{has_number, region_number}
 use Rattle.genie_kernel.specs.Good.{IsGood}
 use Rattle.genie_kernel.specs.Kept.{Kept, KeepsOwner}
 use Rattle.genie_kernel.specs.Regions.{has_id, object_bytes, owned_regions, region_view}
+use Rattle.genie_kernel.specs.Rising.{MetersRise}
 use Rattle.genie_kernel.specs.Steps.{bytes_over}
 use Rattle.genie_kernel.specs.View.{Bytes, state_of, outline, no_bytes}
+use Rattle.genie_kernel.specs.Lemmas.Rising.{rises_most}
 use Rattle.genie_changes.specs.Paged.{HavePages}
 use Rattle.genie_changes.specs.Released.{BuffersShow, ReleasedEnds, ReleasedShows}
 use Rattle.genie_changes.specs.Settled.{IsSettled}
@@ -55,7 +57,9 @@ use Rattle.genie_arrivals.proofs.Paging.{padded, padded_paged, seen_padded}
 use Rattle.genie_arrivals.proofs.PooledAt.{HasPooled, IsPoolAt, has_pooled, payload_is, pool_at, pooled_waits, waiting, waiting_bytes}
 use Rattle.genie_arrivals.proofs.PooledCopy.{copied_good}
 use Rattle.genie_arrivals.proofs.Putting.{PutsBytes, put_state}
+use Rattle.genie_arrivals.proofs.Reaching.{most_page}
 use Rattle.genie_arrivals.proofs.Replying.{early_view, found_finish, numbered_view, outcome, quiet_steps}
+use Rattle.genie_arrivals.proofs.Rising.{rises_back, rises_copied}
 use Rattle.genie_arrivals.proofs.Zeros.{zeros_dropped, zeros_each, zeros_overlaid, zeros_taken}
 
 -- what is known of an input that waits in a pool's buffer, and of the region and the range to which its bytes go
@@ -137,6 +141,15 @@ module _ (k : Kernel) (n : ℕ) (t : Transfer) (q : Region) (range : Range) (m :
     pub last_sized : (v : StoreView) → IsSized k.memory v → IsSized last.memory v
     last_sized v s = record { count = s.count ∙ sym (ap length c.copies.slots); page = s.page ∙ sym (e.back.loans.page ∙ e.back.wires.only.page ∙ c.copies.page) }
 
+    pub last_rises : MetersRise (2 ^ 34) k.memory.frames new.memory.frames
+    last_rises =
+        let stored = x.fits in
+        let limit = at.limit in
+        let page = most_page k c.good in
+        let size = c.size in
+        let few : range.len ≤ 2 ^ 34 = omega (arith, stored, limit, page, size) in
+        rises_back (2 ^ 34) t k.memory.frames m.frames new.memory.frames (rises_copied range.len (2 ^ 34) k.memory.frames m.frames few c.copies.meters c.copies.landed) e.back
+
     pub last_outline : outline last ≡ tidy (put (without_transfer (outline k) n) q.id.0 range.off (payload (no_bytes k.config.page).seen.kept_bytes))
     last_outline = freed_outline laws show end release mid n t new mid_good c.accepted c.ready e ∙ ap (λ (z : flat.State). tidy (without_transfer z n)) put_zeros
 
@@ -167,6 +180,7 @@ module _ (k : Kernel) (n : ℕ) (t : Transfer) (q : Region) (range : Range) (m :
         step = λ slots rests sents have. quiet_steps (state_of k (bytes_over k.memory slots rests sents)) (state_of last (bytes_over last.memory slots rests sents)) n answer (put (without_transfer (state_of k (bytes_over k.memory slots rests sents)) n) q.id.0 range.off (payload (seen k.memory slots).kept_bytes)) (fin (bytes_over k.memory slots rests sents)) mark (last_shown slots rests sents have);
         config = refl;
         unfailed = mark;
+        rises = rises_most (2 ^ 34) (2 ^ 35) k.memory.frames new.memory.frames (omega arith) last_rises;
       })
 
 -- a share input on a device that isn't early, whose region is there

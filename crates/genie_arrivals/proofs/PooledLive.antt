@@ -1,5 +1,5 @@
 -- A weak move input on a pooled device ends: its region has the bytes, and is Live.
-use Rattle.std.proofs.Common.{◌≡◌, ℕ, ◌*◌, false, List, refl, sym, ap, subst, ◌∙◌}
+use Rattle.std.proofs.Common.{◌≡◌, ℕ, ◌*◌, ◌^◌, false, List, refl, sym, ap, subst, arith, ◌∙◌}
 use Rattle.std.specs.Prelude.{Some, None, IsSome, find, if◌then◌else◌}
 use Rattle.genie_base.specs.Transfers.{class_of}
 use Rattle.genie_base.specs.declared.event.Event.TheVariants.{Finish}
@@ -23,6 +23,7 @@ use Rattle.genie_kernel.specs.Good.{IsGood}
 use Rattle.genie_kernel.specs.Regions.{has_id, owned_regions, region_view}
 use Rattle.genie_kernel.specs.Steps.{bytes_over}
 use Rattle.genie_kernel.specs.View.{Bytes, state_of, outline, no_bytes}
+use Rattle.genie_kernel.specs.Lemmas.Rising.{rises_most}
 use Rattle.genie_changes.specs.Released.{BuffersShow, ReleasedEnds, ReleasedShows}
 use Rattle.genie_changes.specs.Removing.{GoodRegionsFit}
 use Rattle.genie_changes.specs.Settled.{IsSettled}
@@ -36,7 +37,7 @@ use Rattle.genie_arrivals.proofs.Found.{found_case, seen_as}
 use Rattle.genie_arrivals.proofs.Lively.{found_everywhere, live_good, live_state}
 use Rattle.genie_arrivals.proofs.Moving.{IsHad}
 use Rattle.genie_arrivals.proofs.PooledAt.{payload_is, pooled_waits}
-use Rattle.genie_arrivals.proofs.PooledEnd.{Copied, at, last, last_kept, last_outline, last_settled, last_shown, last_sized, payload, region_there, x}
+use Rattle.genie_arrivals.proofs.PooledEnd.{Copied, at, last, last_kept, last_outline, last_rises, last_settled, last_shown, last_sized, payload, region_there, x}
 use Rattle.genie_arrivals.proofs.PooledShare.{copied_by, goes, some_owner}
 use Rattle.genie_arrivals.proofs.Replying.{early_view, input_finish, outcome, quiet_steps}
 
@@ -91,6 +92,7 @@ module _ (laws : EndLaws) (change : ChangeLaws) (show : BuffersShow) (end : Rele
             (live_of (bytes_over less.memory slots rests sents) ∙ ap (λ (s : flat.State). model.change_region s o.region.id.0 (model.with_state state.Live)) (last_shown k n t o.region range middle.memory c laws show end release new e slots rests sents have));
         config = refl;
         unfailed = refl;
+        rises = rises_most (2 ^ 34) (2 ^ 35) k.memory.frames new.memory.frames (omega arith) (last_rises k n t o.region range middle.memory c laws show end release new e);
       })
 
 pub live_returns : (laws : EndLaws) (change : ChangeLaws) (fit : GoodRegionsFit) (show : BuffersShow) (end : ReleasedEnds) (release : ReleasedShows) (k middle new : Kernel) (n : ℕ) (t : Transfer) (o : OwnedRegion) (range : Range) → IsGood k → refuse (outline k) (Finish n) ≡ None → IsPooledInput WeakMove k n → IsOwned k n → GoesTo k n range → CopiesPending n range k middle → EndsWaiting n middle new t → (had : IsHad k t o) → EndsPaged k n (lively new o.pid o.region.id.0 had.regions) (reply.Input (Some (o.region.start * k.config.page)) t.stored t.note)

@@ -1,12 +1,11 @@
 -- A move input on a pooled device ends, whose bytes were copied to pages of zeros of its region.
-use Rattle.std.proofs.Common.{◌≡◌, ◌≢◌, ℕ, ◌+◌, ◌*◌, ◌/◌, ◌≤◌, Bool, true, false, List, refl, sym, ap, subst, ◌∙◌, length, drop, get_or, ⊎_elim, eqb-true, ne_eqb}
-use Rattle.std.specs.Prelude.{Option, Some, None, find, flat_map, replicate, ◌==◌}
+use Rattle.std.proofs.Common.{◌≡◌, ◌≢◌, ℕ, ◌+◌, ◌*◌, ◌/◌, ◌^◌, ◌≤◌, Bool, true, false, List, refl, sym, ap, subst, arith, ◌∙◌, length, drop, get_or, ⊎_elim, eqb-true}
+use Rattle.std.specs.Prelude.{Some, None, find, flat_map, replicate, ◌==◌}
 use Rattle.std.specs.List.{range_with_len}
 use Rattle.std.proofs.lemmas.Bool.{cases_Bool}
 use Rattle.std.proofs.lemmas.List.{length-replicate}
 use Rattle.genie_base.specs.Bytes.{overlaid}
 use Rattle.genie_base.specs.Counts.{span}
-use Rattle.genie_base.specs.Transfers.{class_of}
 use Rattle.genie_base.specs.declared.event.Event.TheVariants.{Finish}
 use Rattle.genie_base.specs.declared.region.RegionState.TheVariants as state
 use Rattle.genie_base.specs.declared.reply.Reply.{Reply}
@@ -23,7 +22,7 @@ use Rattle.genie_plan.specs.Plans.{range_bytes}
 use Rattle.genie_plan.specs.Lemmas.Landings.{entry_size}
 use Rattle.genie_region.specs.declared.region.Region.{Region}
 use Rattle.genie_model.specs.Ending.{filled, finish, finish_move, without_transfer}
-use Rattle.genie_model.specs.Lemmas.Lists.{Has, find_has, has_at}
+use Rattle.genie_model.specs.Lemmas.Lists.{Has, find_has}
 use Rattle.genie_model.specs.Refusing.{refuse}
 use Rattle.genie_model.specs.Regions.{change_region, with_state}
 use Rattle.genie_model.specs.Space.{tidy}
@@ -41,8 +40,9 @@ use Rattle.genie_kernel.specs.Steps.{Steps, bytes_over}
 use Rattle.genie_kernel.specs.View.{Bytes, no_bytes, outline, state_of}
 use Rattle.genie_kernel.specs.Lemmas.Keeping.{calls_kept, hidden_kept}
 use Rattle.genie_kernel.specs.Lemmas.Staying.{memory_good}
+use Rattle.genie_kernel.specs.Lemmas.Rising.{rises_most, rises_on}
 use Rattle.genie_changes.specs.Lemmas.Outside.{bytes_alike, unhidden}
-use Rattle.genie_changes.specs.Paged.{HavePages, StepsPaged}
+use Rattle.genie_changes.specs.Paged.{StepsPaged}
 use Rattle.genie_changes.specs.Released.{BuffersShow, ReleasedEnds, ReleasedShows}
 use Rattle.genie_changes.specs.Settled.{IsSettled}
 use Rattle.genie_arrivals.specs.declared.owned.OwnedRegion.{OwnedRegion}
@@ -60,7 +60,7 @@ use Rattle.genie_arrivals.proofs.Moving.{IsHad}
 use Rattle.genie_arrivals.proofs.Owning.{has_owned}
 use Rattle.genie_arrivals.proofs.Paging.{padded, padded_paged, seen_padded}
 use Rattle.genie_arrivals.proofs.PooledAt.{payload_is, waiting_bytes}
-use Rattle.genie_arrivals.proofs.PooledEnd.{Copied, at, last, last_kept, last_settled, last_sized, mid_good, payload, region_there, x}
+use Rattle.genie_arrivals.proofs.PooledEnd.{Copied, at, last, last_kept, last_rises, last_settled, last_sized, mid_good, payload, region_there, x}
 use Rattle.genie_arrivals.proofs.Readying.{other_object}
 use Rattle.genie_arrivals.proofs.Replying.{input_finish, outcome, quiet_steps}
 use Rattle.genie_arrivals.proofs.Zeros.{zeros_dropped, zeros_each, zeros_overlaid, zeros_repeated, zeros_taken}
@@ -204,4 +204,5 @@ module _ (laws : EndLaws) (change : ChangeLaws) (show : BuffersShow) (end : Rele
       step = steps_paged;
       config = refl;
       unfailed = refl;
+      rises = rises_most (2 ^ 20 + 2 ^ 34) (2 ^ 35) k.memory.frames new.memory.frames (omega arith) (rises_on (2 ^ 20) (2 ^ 34) k.memory.frames m1.frames new.memory.frames blanks.rises (last_rises blank n t r range m2 c laws show end release new e));
     })

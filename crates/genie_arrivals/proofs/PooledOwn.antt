@@ -1,5 +1,5 @@
 -- Pages of an object are made its own, one after the other.
-use Rattle.std.proofs.Common.{◌≡◌, ◌≢◌, ℕ, ◌+◌, ◌*◌, ◌^◌, ◌<◌, ◌≤◌, Bool, true, false, refl, ap, sym, ◌∙◌, arith, rules, subst, inl, inr}
+use Rattle.std.proofs.Common.{◌≡◌, ◌≢◌, ℕ, ◌+◌, ◌*◌, ◌<◌, ◌≤◌, Bool, true, false, refl, ap, sym, ◌∙◌, arith, rules, subst, inl, inr}
 use Rattle.std.specs.Prelude.{Option, Some, None, ◌==◌}
 use Rattle.std.proofs.lemmas.Bool.Decides.{eqb_tells}
 use Rattle.genie_base.specs.Lemmas.Places.{same_or}
@@ -11,15 +11,15 @@ use Rattle.genie_object.specs.declared.pages.PageInfo.{PageInfo}
 use Rattle.genie_object.specs.declared.objects.Entry.{Entry}
 use Rattle.genie_object.specs.declared.memory.Memory.{Memory}
 use Rattle.genie_object.specs.Calls.{OnlyMoves, TakesAtMost}
-use Rattle.genie_object.specs.Costs.{AreBelow, Spends, gets_for, place_of, write_work}
+use Rattle.genie_object.specs.Costs.{Spends, gets_for, place_of, write_work}
 use Rattle.genie_object.specs.Keeping.{IsReady}
 use Rattle.genie_object.specs.Objects.{entry_at, names}
 use Rattle.genie_object.specs.Sound.{IsPrivate, IsSized, IsSound}
 use Rattle.genie_object.specs.Touching.{IsOutside, Touches, is_entry, is_in_range}
 use Rattle.genie_object.specs.Lemmas.Calls.{moves_more, moves_none, moves_on}
 use Rattle.genie_object.specs.Lemmas.Naming.{named_once}
-use Rattle.genie_object.specs.Lemmas.Spending.{below_spent}
-use Rattle.genie_object.specs.Lemmas.Works.{below_more, one_get, page_most, write_most}
+use Rattle.genie_object.specs.Lemmas.Works.{one_get, page_most, write_most}
+use Rattle.genie_kernel.specs.Lemmas.Rising.{rises_most, rises_none, rises_on, rises_spent}
 use Rattle.genie_arrivals.specs.PooledRoom.{ArePrivate, MakesOwn}
 
 -- the page that an entry names
@@ -67,9 +67,9 @@ pub record OwnSoFar (old now : Memory) (before mid : StoreView) (o i k : ℕ) : 
   pub own : ArePrivate now o i k
   pub faults : mid.faults ≡ before.faults
 
-pub own_none : (m : Memory) (v : StoreView) (o i : ℕ) → IsSound m → IsSized m v → AreBelow (2 ^ 63 + 2 ^ 20) m.frames.meters → OwnSoFar m m v v o i 0
-own_none m v o i s z below = record {
-  owns = record { moves = moves_none (is_in_range o i 0) m v s z; takes = record { free = omega arith; added = omega arith }; below = below_more (2 ^ 63 + 2 ^ 20) (2 ^ 63 + 2 ^ 20 + 8192 * 0) m.frames.meters (omega arith) below };
+pub own_none : (m : Memory) (v : StoreView) (o i : ℕ) → IsSound m → IsSized m v → OwnSoFar m m v v o i 0
+own_none m v o i s z = record {
+  owns = record { moves = moves_none (is_in_range o i 0) m v s z; takes = record { free = omega arith; added = omega arith }; rises = rises_none (8192 * 0) m.frames m.frames refl };
   own = λ j l. absurd (omega (arith, l));
   faults = refl;
 }
@@ -80,15 +80,15 @@ own_private m o i f r = record { number = r.number; frame = f; is_page = r.is_pa
 -- one more, or the store failed there
 pub own_next : (a b c : Memory) (u v w : StoreView) (o i k : ℕ) → MakesOwn a b u v o i k → OnlyMoves (is_entry o (i + k)) b c v w → TakesAtMost 1 1 b c → Spends (write_work b o (i + k)) (gets_for b o (i + k)) 0 1 b.frames.meters c.frames.meters → MakesOwn a c u w o i (k + 1)
 own_next a b c u v w o i k x y takes spends =
-    let bound : ℕ = 2 ^ 63 + 2 ^ 20 + 8192 * k in
     let work = write_most b o (i + k) in
     let page = page_most b.frames.page x.moves.sound.shaped.size in
     let gets = one_get (place_of b o (i + k)) in
-    let spent = below_spent bound (write_work b o (i + k)) (gets_for b o (i + k)) 0 1 b.frames.meters c.frames.meters x.below spends in
+    let lands : c.frames.landed ≤ b.frames.landed + 0 = omega (arith, y.landed) in
+    let one = rises_spent (write_work b o (i + k)) (gets_for b o (i + k)) 0 1 0 8192 b.frames c.frames spends lands (omega (arith, work, page, gets)) (omega arith) in
     record {
       moves = moves_on (is_in_range o i (k + 1)) a b c u v w (moves_more (is_in_range o i k) (is_in_range o i (k + 1)) a b u v (λ d e h. wider o i k (k + 1) d e (omega arith) h) x.moves) (moves_more (is_entry o (i + k)) (is_in_range o i (k + 1)) b c v w (λ d e h. last_entry o i k (k + 1) d e (omega arith) h) y);
       takes = record { free = omega (arith, x.takes.free, takes.free); added = omega (arith, x.takes.added, takes.added) };
-      below = below_more (bound + write_work b o (i + k) + gets_for b o (i + k) + 0 + 1) (2 ^ 63 + 2 ^ 20 + 8192 * (k + 1)) c.frames.meters (omega (arith, work, page, gets)) spent;
+      rises = rises_most (8192 * k + 8192) (8192 * (k + 1)) a.frames c.frames (omega arith) (rises_on (8192 * k) 8192 a.frames b.frames c.frames x.rises one);
     }
 
 pub own_more : (a b c : Memory) (u v w : StoreView) (o i k : ℕ) (f : FrameId) → OwnSoFar a b u v o i k → OnlyMoves (is_entry o (i + k)) b c v w → TakesAtMost 1 1 b c → Spends (write_work b o (i + k)) (gets_for b o (i + k)) 0 1 b.frames.meters c.frames.meters → IsReady c o (i + k) f → w.faults ≡ v.faults → OwnSoFar a c u w o i (k + 1)
@@ -106,5 +106,5 @@ pub own_wider : (a b : Memory) (u v : StoreView) (o i k n : ℕ) → k ≤ n →
 own_wider a b u v o i k n l x = record {
   moves = moves_more (is_in_range o i k) (is_in_range o i n) a b u v (λ d e h. wider o i k n d e l h) x.moves;
   takes = record { free = omega (arith, x.takes.free, l); added = omega (arith, x.takes.added, l) };
-  below = below_more (2 ^ 63 + 2 ^ 20 + 8192 * k) (2 ^ 63 + 2 ^ 20 + 8192 * n) b.frames.meters (omega (arith, l)) x.below;
+  rises = rises_most (8192 * k) (8192 * n) a.frames b.frames (omega (arith, l)) x.rises;
 }

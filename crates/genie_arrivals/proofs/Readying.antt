@@ -171,7 +171,7 @@ ready_shows laws k n t range m v w i count work g found class inward x ready =
       counts = λ f. ap (λ cs. get_or cs f no_counts) moves.counts;
     }
 
-works_most : (m : Memory) (o i first len n : ℕ) → parts_work m o i first len n ≤ m.frames.page * n
+pub works_most : (m : Memory) (o i first len n : ℕ) → parts_work m o i first len n ≤ m.frames.page * n
 works_most m o i first len zero = omega arith
 works_most m o i first len (suc n) =
     let one = part_most m o (i + n) (piece_len m.frames.page first len n) in

@@ -17,6 +17,7 @@ use Rattle.genie_plan.specs.Landings.{entries_bytes}
 use Rattle.genie_kernel.specs.declared.kernel.Kernel.{Kernel}
 use Rattle.genie_kernel.specs.declared.transfer.Transfer.{Transfer}
 use Rattle.genie_kernel.specs.Calls.{has_number}
+use Rattle.genie_kernel.specs.Rising.{MetersRise}
 use Rattle.genie_arrivals.specs.Outboard.{waiting_bytes}
 
 -- the bytes stand at place off of the object, and nothing else of what is seen has changed
@@ -25,12 +26,13 @@ pub record ShowsBytes (old new : Memory) (o off : ℕ) (bytes : List ℕ) (slots
   pub objects : (a b : ℕ) → a ≢ o → (seen new slots).entry_bytes a b ≡ (seen old slots).entry_bytes a b
   pub others : (f : ℕ) → (seen new slots).kept_bytes f ≡ (seen old slots).kept_bytes f
 
--- no loan and no frame of the system is more or less than before
+-- no loan and no frame of the system is more or less than before, and the meters rise by so much at most
 pub record StoresBytes (old new : Memory) (o off : ℕ) (bytes : List ℕ) : Type 0 where
   pub sound : IsSound new
   pub shows : (slots : ℕ → List ℕ) → ((s : ℕ) → length (slots s) ≡ old.frames.page) → ShowsBytes old new o off bytes slots
   pub keeps : KeepsBesides [] old new
   pub touches : Touches (is_in_range o (off / old.frames.page) (span old.frames.page off (length bytes))) old new
+  pub rises : MetersRise (2 ^ 34) old.frames new.frames
 
 -- so many bytes may be stored so: there is a free frame for each page of the range
 pub record CanStoreBytes (m : Memory) (o off len few : ℕ) : Type 0 where

@@ -1,18 +1,18 @@
 -- The pages of a range are brought in, and made the object's own.
-use Rattle.std.specs.Prelude.{ℕ, ◌+◌, ◌*◌, ◌^◌, ◌<◌}
+use Rattle.std.specs.Prelude.{ℕ, ◌+◌, ◌*◌, ◌<◌}
 use Rattle.genie_store.specs.StoreView.{StoreView}
 use Rattle.genie_object.specs.declared.memory.Memory.{Memory}
 use Rattle.genie_object.specs.Calls.{OnlyMoves, TakesAtMost}
-use Rattle.genie_object.specs.Costs.{AreBelow}
 use Rattle.genie_object.specs.Objects.{entry_at}
 use Rattle.genie_object.specs.Sound.{IsPrivate}
 use Rattle.genie_object.specs.Touching.{is_in_range}
+use Rattle.genie_kernel.specs.Rising.{MetersRise}
 
 -- n entries of object o from entry i on were made writable, or some of them before the store failed
 pub record MakesOwn (old new : Memory) (before now : StoreView) (o i n : ℕ) : Type 0 where
   pub moves : OnlyMoves (is_in_range o i n) old new before now
   pub takes : TakesAtMost n n old new
-  pub below : AreBelow (2 ^ 63 + 2 ^ 20 + 8192 * n) new.frames.meters
+  pub rises : MetersRise (8192 * n) old.frames new.frames
 
 -- each of them has a page of its own
 abbrev pub ArePrivate : Memory → ℕ → ℕ → ℕ → Type 0

@@ -15,6 +15,7 @@ use Rattle.genie_object.specs.Sound.{IsSound}
 use Rattle.genie_object.specs.Touching.{Touches, is_in_range}
 use Rattle.genie_plan.specs.Landings.{entries_bytes}
 use Rattle.genie_plan.specs.Plans.{range_bytes, times}
+use Rattle.genie_kernel.specs.Rising.{MetersRise}
 
 -- the buffer's first len bytes stand at place off of the object, and nothing else of what is seen has changed but that
 -- the buffer is gone
@@ -23,7 +24,7 @@ pub record ShowsBuffer (old new : Memory) (o off len : ℕ) (frames : List ℕ) 
   pub objects : (a b : ℕ) → a ≢ o → (seen new slots).entry_bytes a b ≡ (seen old slots).entry_bytes a b
   pub others : (f : ℕ) → times frames f ≡ 0 → (seen new slots).kept_bytes f ≡ (seen old slots).kept_bytes f
 
--- the frames of the buffer have left it, and carry nothing
+-- the frames of the buffer have left it, and carry nothing; the meters rise by the bytes of its pages at most
 pub record StoresBuffer (old new : Memory) (o off len : ℕ) (frames : List ℕ) : Type 0 where
   pub sound : IsSound new
   pub shows : (slots : ℕ → List ℕ) → ((s : ℕ) → length (slots s) ≡ old.frames.page) → ShowsBuffer old new o off len frames slots
@@ -31,6 +32,7 @@ pub record StoresBuffer (old new : Memory) (o off len : ℕ) (frames : List ℕ)
   pub unowned : (f : ℕ) → 0 < times frames f → is_system (owner_at new.frames f) ≡ false
   pub keeps : KeepsBesides frames old new
   pub touches : Touches (is_in_range o (off / old.frames.page) (span old.frames.page off len)) old new
+  pub rises : MetersRise (2 ^ 20) old.frames new.frames
 
 -- a buffer of so many loans may be stored so
 pub record CanStoreBuffer (m : Memory) (o off len few : ℕ) (frames : List ℕ) : Type 0 where

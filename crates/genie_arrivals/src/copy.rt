@@ -8,6 +8,7 @@ ghost use Rattle.genie_object.specs.Sound.{IsSized};
 ghost use Rattle.genie_finish.specs.Ranges.{CanStoreRange};
 ghost use Rattle.genie_model.specs.Refusing.{refuse};
 ghost use Rattle.genie_kernel.specs.Good.{IsGood};
+ghost use Rattle.genie_kernel.specs.Rising.{MetersRise};
 ghost use Rattle.genie_changes.specs.Making.{IsMoved};
 ghost use Rattle.genie_arrivals.specs.Cases.{IsEarlyInput};
 ghost use Rattle.genie_kernel.specs.View.{outline};
@@ -45,6 +46,7 @@ fn make_ready<S: Store>(
     ensures moved { IsMoved kernel.old kernel.new (S.view store.old) (S.view store.new) }
     ensures can { OnOk result ((few : ℕ) → CanStoreRange kernel.new.memory range.now.object.0 range.now.off range.now.len few) }
     ensures meters { AreBelow (2 ^ 63 + 2 ^ 22) kernel.new.memory.frames.meters }
+    ensures rises { MetersRise (2 ^ 22) kernel.old.memory.frames kernel.new.memory.frames }
     ensures cause { HasCause (S.view store.old).faults (S.view store.new).faults result }
 {
     copy_laws();

@@ -2,6 +2,7 @@
 #![tactic(auto)]
 
 mod back;
+mod blanks;
 mod clear;
 pub mod copy;
 mod fill;
@@ -15,6 +16,7 @@ pub mod outboard_move;
 mod owned;
 pub mod pooled;
 pub mod pooled_copy;
+pub mod pooled_move;
 mod pooled_room;
 mod release;
 mod room;

@@ -7,6 +7,7 @@ ghost use Rattle.genie_object.specs.Costs.{AreBelow};
 ghost use Rattle.genie_object.specs.Sound.{IsSized};
 ghost use Rattle.genie_model.specs.Refusing.{refuse};
 ghost use Rattle.genie_kernel.specs.Good.{IsGood};
+ghost use Rattle.genie_kernel.specs.Rising.{MetersRise};
 ghost use Rattle.genie_kernel.specs.View.{outline};
 ghost use Rattle.genie_changes.specs.Making.{IsMoved};
 ghost use Rattle.genie_kernel.specs.Calls.{has_number};
@@ -73,6 +74,7 @@ fn make_ready<S: Store>(
     requires target { IsTargetOf kernel.old id.0 range.now }
     ensures moved { IsMoved kernel.old kernel.new (S.view store.old) (S.view store.new) }
     ensures can { OnOk result ((few : ℕ) → CanStoreBytes kernel.new.memory range.now.object.0 range.now.off range.now.len few) }
+    ensures rises { MetersRise (2 ^ 22) kernel.old.memory.frames kernel.new.memory.frames }
     ensures landed { kernel.new.memory.frames.landed ≡ kernel.old.memory.frames.landed }
     ensures cause { HasCause (S.view store.old).faults (S.view store.new).faults result }
 {

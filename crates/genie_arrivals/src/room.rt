@@ -6,6 +6,7 @@ ghost use Rattle.genie_hiding.specs.Rooms.{available};
 ghost use Rattle.genie_object.specs.Costs.{AreBelow};
 ghost use Rattle.genie_object.specs.Sound.{IsSized};
 ghost use Rattle.genie_kernel.specs.Good.{IsGood};
+ghost use Rattle.genie_kernel.specs.Rising.{MetersRise};
 ghost use Rattle.genie_changes.specs.Making.{IsMoved};
 
 use genie_changes::making::memory_moves;
@@ -27,6 +28,7 @@ pub(crate) fn make_frames<S: Store>(
     ensures moved { IsMoved kernel.old kernel.new (S.view store.old) (S.view store.new) }
     ensures free { OnOk result (frames ≤ count_by is_free kernel.new.memory.frames.owners) }
     ensures meters { AreBelow (2 ^ 63 + 2 ^ 20) kernel.new.memory.frames.meters }
+    ensures rises { MetersRise (2 ^ 20) kernel.old.memory.frames kernel.new.memory.frames }
     ensures landed { kernel.new.memory.frames.landed ≡ kernel.old.memory.frames.landed }
     ensures cause { HasCause (S.view store.old).faults (S.view store.new).faults result }
 {

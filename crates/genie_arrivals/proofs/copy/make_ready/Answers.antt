@@ -1,9 +1,11 @@
-use Rattle.std.proofs.Common.{◌≡◌, ◌/◌, ◌+◌, ◌≤◌, ℕ, length, refl, sym, subst, arith, ◌∙◌}
+use Rattle.std.proofs.Common.{◌≡◌, ◌/◌, ◌+◌, ◌^◌, ◌≤◌, ℕ, length, refl, sym, subst, arith, ◌∙◌}
 use Rattle.genie_base.specs.Counts.{span}
 use Rattle.genie_hiding.specs.Rooms.{available}
 use Rattle.genie_object.specs.Objects.{object_at}
 use Rattle.genie_object.specs.Lemmas.Works.{page_most}
+use Rattle.genie_kernel.specs.Lemmas.Rising.{rises_most}
 use Rattle.genie_arrivals.proofs.Readying.{aim, aim_moved, aim_roomy, aim_shows, ready_meters}
+use Rattle.genie_arrivals.proofs.Rising.{rises_ready}
 use Rattle.genie_arrivals.proofs.copy.make_ready.Goals as goal
 
 pub page_count-requires-clause-fits : goal.page_count-requires-clause-fits
@@ -66,3 +68,22 @@ returns-in-Err-ready_range-clause-meters g c =
     let a = aim_moved c.args.kernel.now k c.args.id.0 c.args.range.now _ _ c.make_frames.ensures.moved (aim c.args.kernel.now c.args.id.0 c.args.range.now c.requires.pending c.requires.case c.requires.target) in
     let most = subst (λ (z : ℕ). span z c.args.range.now.off c.args.range.now.len ≤ 65) (sym good.sized.page) (aim_roomy c.copy_laws.ensures k c.args.id.0 c.args.range.now good a).most in
     ready_meters k.memory c.ready_range.new.memory.frames.meters c.args.range.now.object.0 _ _ c.args.range.now.len (span k.memory.frames.page c.args.range.now.off c.args.range.now.len) most (page_most k.memory.frames.page good.sound.shaped.size) c.make_frames.ensures.meters c.ready_range.ensures.ready.spends
+
+pub returns-in-Ok-ready_range-clause-rises : goal.returns-in-Ok-ready_range-clause-rises
+returns-in-Ok-ready_range-clause-rises g c =
+    let k = c.make_frames.new.kernel in
+    let good = c.make_frames.ensures.moved.good in
+    let a = aim_moved c.args.kernel.now k c.args.id.0 c.args.range.now _ _ c.make_frames.ensures.moved (aim c.args.kernel.now c.args.id.0 c.args.range.now c.requires.pending c.requires.case c.requires.target) in
+    let most = subst (λ (z : ℕ). span z c.args.range.now.off c.args.range.now.len ≤ 65) (sym good.sized.page) (aim_roomy c.copy_laws.ensures k c.args.id.0 c.args.range.now good a).most in
+    rises_ready c.args.kernel.now.memory.frames k.memory c.ready_range.new.memory c.args.range.now.object.0 _ _ c.args.range.now.len (span k.memory.frames.page c.args.range.now.off c.args.range.now.len) (page_most k.memory.frames.page good.sound.shaped.size) most c.make_frames.ensures.rises c.ready_range.ensures.ready.spends c.ready_range.ensures.ready.moves.landed
+
+pub returns-in-Err-ready_range-clause-rises : goal.returns-in-Err-ready_range-clause-rises
+returns-in-Err-ready_range-clause-rises g c =
+    let k = c.make_frames.new.kernel in
+    let good = c.make_frames.ensures.moved.good in
+    let a = aim_moved c.args.kernel.now k c.args.id.0 c.args.range.now _ _ c.make_frames.ensures.moved (aim c.args.kernel.now c.args.id.0 c.args.range.now c.requires.pending c.requires.case c.requires.target) in
+    let most = subst (λ (z : ℕ). span z c.args.range.now.off c.args.range.now.len ≤ 65) (sym good.sized.page) (aim_roomy c.copy_laws.ensures k c.args.id.0 c.args.range.now good a).most in
+    rises_ready c.args.kernel.now.memory.frames k.memory c.ready_range.new.memory c.args.range.now.object.0 _ _ c.args.range.now.len (span k.memory.frames.page c.args.range.now.off c.args.range.now.len) (page_most k.memory.frames.page good.sound.shaped.size) most c.make_frames.ensures.rises c.ready_range.ensures.ready.spends c.ready_range.ensures.ready.moves.landed
+
+pub returns-in-Err-clause-rises : goal.returns-in-Err-clause-rises
+returns-in-Err-clause-rises g c = rises_most (2 ^ 20) (2 ^ 22) c.args.kernel.now.memory.frames c.make_frames.new.kernel.memory.frames (omega arith) c.make_frames.ensures.rises

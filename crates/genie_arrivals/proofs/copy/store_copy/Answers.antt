@@ -20,7 +20,7 @@ pub make_ready-requires-clause-pending : goal.make_ready-requires-clause-pending
 make_ready-requires-clause-pending g c = found_some c.args.kernel.now c.args.id.0 c.requires.accepted
 
 pub returns-in-Err : goal.returns-in-Err
-returns-in-Err g c = fault_serves c.args.kernel.now c.make_ready.new.kernel (g.S.Store.view c.args.store.now) (g.S.Store.view c.make_ready.new.store) c.args.id.0 c.requires.accepted c.make_ready.ensures.moved c.in-Err.ensures.cause.failed
+returns-in-Err g c = fault_serves c.args.kernel.now c.make_ready.new.kernel (g.S.Store.view c.args.store.now) (g.S.Store.view c.make_ready.new.store) c.args.id.0 c.requires.accepted c.make_ready.ensures.moved c.make_ready.ensures.rises c.in-Err.ensures.cause.failed
 
 pub remove-transfer-requires : goal.remove-transfer-requires
 remove-transfer-requires g c = found_some c.make_ready.new.kernel c.args.id.0 (refused_alike c.args.kernel.now c.make_ready.new.kernel (g.S.Store.view c.args.store.now) (g.S.Store.view c.make_ready.new.store) c.args.id.0 c.make_ready.ensures.moved c.requires.accepted)
@@ -78,4 +78,4 @@ returns g c =
     let h = has_buffer mid c.args.id.0 t c.in-Inward.plan moved.good found taken.is.early strong taken.is.inward c.in-Inward.is in
     let stored : StoresBuffer mid.memory c.store_buffer.new.memory c.args.range.now.object.0 c.args.range.now.off c.args.range.now.len (input_frames c.in-Inward.plan.loans.items) = subst (λ (l : List InLoan). StoresBuffer mid.memory c.store_buffer.new.memory c.args.range.now.object.0 c.args.range.now.off c.args.range.now.len (input_frames l)) c.as_slice.ensures.value c.store_buffer.ensures in
     let ready = found_over mid c.args.id.0 t (refused_alike k mid v w c.args.id.0 moved c.requires.accepted) found in
-    subst (λ (ts : List Transfer). Serves k (Finish c.args.id.0) (record mid { memory = c.store_buffer.new.memory; transfers = ts }) v w (reply.Input None t.stored t.note)) (sym c.remove-transfer.ensures.others) (stored_serves c.end_laws.ensures c.copy_laws.ensures c.swap_laws.ensures c.paged_events_are_told.ensures k mid v w c.args.id.0 t c.args.range.now c.in-Inward.plan.loans.items c.store_buffer.new.memory c.requires.accepted moved c.in-Ok.ensures.cause.kept (g.met.S.Store.paged c.make_ready.new.store) found ready taken h stored)
+    subst (λ (ts : List Transfer). Serves k (Finish c.args.id.0) (record mid { memory = c.store_buffer.new.memory; transfers = ts }) v w (reply.Input None t.stored t.note)) (sym c.remove-transfer.ensures.others) (stored_serves c.end_laws.ensures c.copy_laws.ensures c.swap_laws.ensures c.paged_events_are_told.ensures k mid v w c.args.id.0 t c.args.range.now c.in-Inward.plan.loans.items c.store_buffer.new.memory c.requires.accepted moved c.in-Ok.ensures.cause.kept (g.met.S.Store.paged c.make_ready.new.store) found ready taken h stored c.make_ready.ensures.rises)

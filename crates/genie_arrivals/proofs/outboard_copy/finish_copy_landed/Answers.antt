@@ -26,7 +26,7 @@ pub make_ready-requires-clause-pending : goal.make_ready-requires-clause-pending
 make_ready-requires-clause-pending g c = found_some c.args.kernel.now c.args.id.0 c.requires.accepted
 
 pub returns-in-Err : goal.returns-in-Err
-returns-in-Err g c = fault_serves c.args.kernel.now c.make_ready.new.kernel (g.S.Store.view c.args.store.now) (g.S.Store.view c.make_ready.new.store) c.args.id.0 c.requires.accepted c.make_ready.ensures.moved c.in-Err.ensures.cause.failed
+returns-in-Err g c = fault_serves c.args.kernel.now c.make_ready.new.kernel (g.S.Store.view c.args.store.now) (g.S.Store.view c.make_ready.new.store) c.args.id.0 c.requires.accepted c.make_ready.ensures.moved c.make_ready.ensures.rises c.in-Err.ensures.cause.failed
 
 pub store_pending-requires-clause-accepted : goal.store_pending-requires-clause-accepted
 store_pending-requires-clause-accepted g c =
@@ -120,5 +120,5 @@ returns g c =
     let new : Kernel = c.end_waiting-transfer.new.kernel in
     let z : EndsWaiting c.args.id.0 (record mid { memory = c.store_pending.new.kernel.memory }) new c.end_waiting-transfer.result = subst (λ (j : Kernel). EndsWaiting c.args.id.0 j new c.end_waiting-transfer.result) s.only c.end_waiting-transfer.ensures in
     let its : c.end_waiting-transfer.result ≡ a.t = same_call mid c.args.id.0 a.t c.end_waiting-transfer.result a.found z.found in
-    let done = copy_landed c.end_laws.ensures c.buffers_show.ensures c.buffers_are_released.ensures.ends c.buffers_are_released.ensures.shows c.copy_laws.ensures c.swap_laws.ensures c.paged_events_are_told.ensures k mid v w c.args.id.0 a.t c.args.range.now c.store_pending.new.kernel.memory c.requires.accepted moved c.in-Ok.ensures.cause.kept (g.met.S.Store.paged c.make_ready.new.store) a.found ready a.is a.target size stores new (subst (λ (u : Transfer). EndsWaiting c.args.id.0 (record mid { memory = c.store_pending.new.kernel.memory }) new u) its z) in
+    let done = copy_landed c.end_laws.ensures c.buffers_show.ensures c.buffers_are_released.ensures.ends c.buffers_are_released.ensures.shows c.copy_laws.ensures c.swap_laws.ensures c.paged_events_are_told.ensures k mid v w c.args.id.0 a.t c.args.range.now c.store_pending.new.kernel.memory c.requires.accepted moved c.in-Ok.ensures.cause.kept (g.met.S.Store.paged c.make_ready.new.store) a.found ready a.is a.target size stores new (subst (λ (u : Transfer). EndsWaiting c.args.id.0 (record mid { memory = c.store_pending.new.kernel.memory }) new u) its z) c.make_ready.ensures.rises in
     subst (λ (u : Transfer). Serves k (Finish c.args.id.0) new v w (reply.Input None u.stored u.note)) (sym its) done

@@ -1,9 +1,11 @@
-use Rattle.std.proofs.Common.{◌≡◌, ◌*◌, ◌≤◌, ℕ, refl, sym, subst, arith, ◌∙◌}
+use Rattle.std.proofs.Common.{◌≡◌, ◌*◌, ◌^◌, ◌≤◌, ℕ, refl, sym, subst, arith, ◌∙◌}
 use Rattle.genie_base.specs.Counts.{span}
 use Rattle.genie_hiding.specs.Rooms.{available}
 use Rattle.genie_object.specs.Lemmas.Works.{page_most}
+use Rattle.genie_kernel.specs.Lemmas.Rising.{rises_most}
 use Rattle.genie_arrivals.proofs.LateAim.{late_aim, late_can, late_frames, late_most, late_moved, late_places, late_roomy, late_shows, late_within}
 use Rattle.genie_arrivals.proofs.Readying.{ready_meters}
+use Rattle.genie_arrivals.proofs.Rising.{rises_ready}
 use Rattle.genie_arrivals.proofs.outboard_copy.make_ready.Goals as goal
 
 pub page_count-count-requires-clause-fits : goal.page_count-count-requires-clause-fits
@@ -65,3 +67,20 @@ returns-in-Ok-ready_range-clause-can g c =
     let most = late_most c.copy_laws.ensures k c.args.id.0 c.args.range.now good a in
     let after = ready_meters k.memory c.ready_range.new.memory.frames.meters c.args.range.now.object.0 _ _ c.args.range.now.len (span k.memory.frames.page c.args.range.now.off c.args.range.now.len) most (page_most k.memory.frames.page good.sound.shaped.size) c.make_frames.ensures.meters c.ready_range.ensures.ready.spends in
     λ few. late_can k.memory u w c.args.range.now few _ most (late_roomy c.copy_laws.ensures k c.args.id.0 c.args.range.now good a).fits (late_within c.copy_laws.ensures k c.args.id.0 c.args.range.now good a) (omega (arith, number, c.in-Ok.ensures.free)) (late_places c.copy_laws.ensures k c.args.id.0 c.args.range.now good a) c.make_frames.ensures.meters c.ready_range.new.memory c.ready_range.ensures.ready after (c.in-Ok-ready_range.ensures.can few)
+
+pub returns-in-Ok-ready_range-clause-rises : goal.returns-in-Ok-ready_range-clause-rises
+returns-in-Ok-ready_range-clause-rises g c =
+    let k = c.make_frames.new.kernel in
+    let good = c.make_frames.ensures.moved.good in
+    let a = late_moved c.args.kernel.now k c.args.id.0 c.args.range.now _ _ c.make_frames.ensures.moved (late_aim c.args.kernel.now c.args.id.0 c.args.range.now c.requires.pending c.requires.case c.requires.target) in
+    rises_ready c.args.kernel.now.memory.frames k.memory c.ready_range.new.memory c.args.range.now.object.0 _ _ c.args.range.now.len (span k.memory.frames.page c.args.range.now.off c.args.range.now.len) (page_most k.memory.frames.page good.sound.shaped.size) (late_most c.copy_laws.ensures k c.args.id.0 c.args.range.now good a) c.make_frames.ensures.rises c.ready_range.ensures.ready.spends c.ready_range.ensures.ready.moves.landed
+
+pub returns-in-Err-ready_range-clause-rises : goal.returns-in-Err-ready_range-clause-rises
+returns-in-Err-ready_range-clause-rises g c =
+    let k = c.make_frames.new.kernel in
+    let good = c.make_frames.ensures.moved.good in
+    let a = late_moved c.args.kernel.now k c.args.id.0 c.args.range.now _ _ c.make_frames.ensures.moved (late_aim c.args.kernel.now c.args.id.0 c.args.range.now c.requires.pending c.requires.case c.requires.target) in
+    rises_ready c.args.kernel.now.memory.frames k.memory c.ready_range.new.memory c.args.range.now.object.0 _ _ c.args.range.now.len (span k.memory.frames.page c.args.range.now.off c.args.range.now.len) (page_most k.memory.frames.page good.sound.shaped.size) (late_most c.copy_laws.ensures k c.args.id.0 c.args.range.now good a) c.make_frames.ensures.rises c.ready_range.ensures.ready.spends c.ready_range.ensures.ready.moves.landed
+
+pub returns-in-Err-clause-rises : goal.returns-in-Err-clause-rises
+returns-in-Err-clause-rises g c = rises_most (2 ^ 20) (2 ^ 22) c.args.kernel.now.memory.frames c.make_frames.new.kernel.memory.frames (omega arith) c.make_frames.ensures.rises

@@ -1,4 +1,4 @@
-use Rattle.std.proofs.Common.{◌≡◌, ℕ, List, length, sym, subst, ◌∙◌}
+use Rattle.std.proofs.Common.{◌≡◌, ℕ, ◌^◌, ◌≤◌, List, length, sym, subst, arith, ◌∙◌}
 use Rattle.genie_base.specs.Counts.{span}
 use Rattle.genie_frame.specs.declared.frame.InLoan.{InLoan}
 use Rattle.genie_frame.specs.FrameTable.{FrameTable}
@@ -9,6 +9,7 @@ use Rattle.genie_plan.specs.Plans.{input_frames}
 use Rattle.genie_arrivals.specs.FreshStored.{CanStoreBytes}
 use Rattle.genie_arrivals.specs.Stored.{CanStoreBuffer, StoresBuffer}
 use Rattle.genie_arrivals.proofs.FreshStored.{bytes_stored, can_store_full}
+use Rattle.genie_arrivals.proofs.Rising.{rises_landed}
 use Rattle.genie_arrivals.proofs.outboard_copy.store_bytes.Goals as goal
 
 pub store_buffer-requires : goal.store_buffer-requires
@@ -43,4 +44,7 @@ returns c =
     let one = subst (λ (l : List InLoan). StoresBuffer (record a { frames = u }) new o off c.args.range.now.len (input_frames l)) c.as_slice.ensures.value c.store_buffer.ensures in
     let two = subst (λ (z : Memory). StoresBuffer z new o off c.args.range.now.len fs) (with_frames u) one in
     let three = subst (λ (l : ℕ). StoresBuffer (record m { frames = u }) new o off l fs) (sym e.len) two in
-    bytes_stored m a.frames u c.args.id.0 fs p.first p.len c.args.bytes.now c.requires.can.sound e.fresh (subst IsSound (with_frames a.frames) e.sound) (subst (ShowsBesides fs m) (with_frames a.frames) e.seen) e.buffers e.ready (e.len ∙ c.requires.size) c.land_bytes.ensures.only c.land_bytes.ensures.content c.landings_show_nowhere_else.ensures new o off e.first three
+    let few : length fs ≤ 2 ^ 33 = omega (arith, e.number, c.requires.can.most) in
+    let short : length c.args.bytes.now ≤ 2 ^ 33 = omega (arith, c.requires.size, c.requires.can.fits) in
+    let rises = rises_landed _ fs p.first p.len (length c.args.bytes.now) (2 ^ 33) m.frames a.frames u few short e.fresh c.land_bytes.ensures.only c.land_bytes.ensures.most in
+    bytes_stored m a.frames u c.args.id.0 fs p.first p.len c.args.bytes.now c.requires.can.sound e.fresh (subst IsSound (with_frames a.frames) e.sound) (subst (ShowsBesides fs m) (with_frames a.frames) e.seen) e.buffers e.ready (e.len ∙ c.requires.size) c.land_bytes.ensures.only c.land_bytes.ensures.content c.landings_show_nowhere_else.ensures new o off e.first three rises

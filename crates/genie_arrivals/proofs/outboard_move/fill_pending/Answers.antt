@@ -10,7 +10,7 @@ use Rattle.genie_arrivals.specs.Pooled.{GoesToRegion}
 use Rattle.genie_arrivals.proofs.Buffered.{device_number}
 use Rattle.genie_arrivals.proofs.Found.{found_case, found_over, found_some}
 use Rattle.genie_arrivals.proofs.LateAim.{fetched_all, late_fetch}
-use Rattle.genie_arrivals.proofs.MoveAim.{aim_there, aim_unheld, move_aim}
+use Rattle.genie_arrivals.proofs.MoveAim.{aim_region, aim_there, aim_unheld, move_aim}
 use Rattle.genie_arrivals.proofs.outboard_move.fill_pending.Goals as goal
 
 pub fill_waiting-requires-clause-number : goal.fill_waiting-requires-clause-number
@@ -28,10 +28,10 @@ fill_waiting-requires-clause-waiting c =
     late_fetch k c.args.id.0 t c.requires.good found (found_case (IsOutboardInput Move k.devices) k c.args.id.0 t c.requires.case found) (found_over k c.args.id.0 t c.requires.accepted found)
 
 pub fill_waiting-requires-clause-there : goal.fill_waiting-requires-clause-there
-fill_waiting-requires-clause-there c = aim_there c.args.kernel.now c.args.id.0 c.args.range.now c.requires.good (move_aim c.args.kernel.now c.args.id.0 c.args.range.now c.requires.accepted c.requires.case c.requires.place)
+fill_waiting-requires-clause-there c = aim_there c.args.kernel.now c.args.id.0 c.args.range.now c.requires.good (aim_region c.args.kernel.now c.args.id.0 c.args.range.now (move_aim c.args.kernel.now c.args.id.0 c.args.range.now c.requires.accepted c.requires.case c.requires.place))
 
 pub fill_waiting-requires-clause-unheld : goal.fill_waiting-requires-clause-unheld
-fill_waiting-requires-clause-unheld c = aim_unheld c.args.kernel.now c.args.id.0 c.args.range.now c.requires.good (move_aim c.args.kernel.now c.args.id.0 c.args.range.now c.requires.accepted c.requires.case c.requires.place)
+fill_waiting-requires-clause-unheld c = aim_unheld c.args.kernel.now c.args.id.0 c.args.range.now c.requires.good (aim_region c.args.kernel.now c.args.id.0 c.args.range.now (move_aim c.args.kernel.now c.args.id.0 c.args.range.now c.requires.accepted c.requires.case c.requires.place))
 
 pub fill_waiting-requires-clause-size : goal.fill_waiting-requires-clause-size
 fill_waiting-requires-clause-size c =

@@ -1,4 +1,4 @@
-use Rattle.std.proofs.Common.{◌≡◌, ◌≤◌, ◌*◌, ℕ, true, false, sym, ap, subst, arith, ◌∙◌}
+use Rattle.std.proofs.Common.{◌≡◌, ◌≤◌, ◌*◌, ℕ, true, false, refl, sym, ap, subst, arith, ◌∙◌}
 use Rattle.std.specs.Prelude.{Some, IfSome, IsSome, find, is_some, ◌<◌, ◌^◌}
 use Rattle.genie_base.specs.Counts.{span}
 use Rattle.genie_base.specs.declared.event.Event.TheVariants.{Finish}
@@ -13,6 +13,7 @@ use Rattle.genie_kernel.specs.declared.kernel.Kernel.{Kernel}
 use Rattle.genie_kernel.specs.declared.transfer.Transfer.{Transfer}
 use Rattle.genie_kernel.specs.Calls.{has_number}
 use Rattle.genie_kernel.specs.Regions.{has_id, owned_regions, regions_of}
+use Rattle.genie_kernel.specs.Lemmas.Rising.{rises_most}
 use Rattle.genie_kernel.specs.View.{outline}
 use Rattle.genie_arrivals.specs.Failing.{Serves}
 use Rattle.genie_arrivals.specs.Live.{lively}
@@ -23,7 +24,8 @@ use Rattle.genie_arrivals.specs.Replies.{is_there}
 use Rattle.genie_arrivals.specs.Waiting.{IsWaiting}
 use Rattle.genie_arrivals.proofs.Closing.{fault_serves, refused_alike}
 use Rattle.genie_arrivals.proofs.Found.{found_case}
-use Rattle.genie_arrivals.proofs.MoveAim.{MoveAim, aim_can, aim_fits, aim_frames, move_aim, move_moved}
+use Rattle.genie_arrivals.proofs.LateAim.{strong_unlent}
+use Rattle.genie_arrivals.proofs.MoveAim.{MoveAim, aim_can, aim_fits, aim_frames, aim_region, move_aim, move_moved}
 use Rattle.genie_arrivals.proofs.MoveEnds.{over_call, over_ends, over_good, over_spaces}
 use Rattle.genie_arrivals.proofs.Moving.{is_had, low_address}
 use Rattle.genie_arrivals.proofs.Owning.{named_there}
@@ -33,18 +35,19 @@ use Rattle.genie_arrivals.proofs.outboard_move.finish_move_landed.Goals as goal
 
 pub page_count-count-requires-clause-fits : goal.page_count-count-requires-clause-fits
 page_count-count-requires-clause-fits g c =
-    aim_fits c.args.kernel.now c.args.id.0 c.args.range.now c.requires.good (move_aim c.args.kernel.now c.args.id.0 c.args.range.now c.requires.accepted c.requires.case c.requires.place) c.end_laws.ensures c.change_laws.ensures c.copy_laws.ensures
+    aim_fits c.args.kernel.now c.args.id.0 c.args.range.now c.requires.good (aim_region c.args.kernel.now c.args.id.0 c.args.range.now (move_aim c.args.kernel.now c.args.id.0 c.args.range.now c.requires.accepted c.requires.case c.requires.place)) c.end_laws.ensures c.change_laws.ensures c.copy_laws.ensures
 
 pub make_frames-requires-clause-frames : goal.make_frames-requires-clause-frames
 make_frames-requires-clause-frames g c =
-    let frames = aim_frames c.args.kernel.now c.args.id.0 c.args.range.now c.requires.good (move_aim c.args.kernel.now c.args.id.0 c.args.range.now c.requires.accepted c.requires.case c.requires.place) c.end_laws.ensures c.change_laws.ensures c.copy_laws.ensures c.pending_are_available.ensures in
+    let a : MoveAim c.args.kernel.now c.args.id.0 c.args.range.now = move_aim c.args.kernel.now c.args.id.0 c.args.range.now c.requires.accepted c.requires.case c.requires.place in
+    let frames = aim_frames c.args.kernel.now c.args.id.0 c.args.range.now c.requires.good (aim_region c.args.kernel.now c.args.id.0 c.args.range.now a) c.end_laws.ensures c.change_laws.ensures c.copy_laws.ensures c.pending_are_available.ensures (strong_unlent c.args.kernel.now c.args.id.0 a.t c.requires.good a.found a.is refl) in
     let page : c.get-page.result ≡ c.args.kernel.now.config.page = c.get-page.ensures.number ∙ c.page.ensures ∙ c.requires.good.spaced.page in
     let pages = subst (λ (z : ℕ). span z c.args.range.now.off c.args.range.now.len ≤ available c.args.kernel.now.memory.frames) (sym page) frames in
     omega (arith, pages, c.page_count-count.ensures.number)
 
 pub returns-in-Err : goal.returns-in-Err
 returns-in-Err g c =
-    fault_serves c.args.kernel.now c.make_frames.new.kernel (g.S.Store.view c.args.store.now) (g.S.Store.view c.make_frames.new.store) c.args.id.0 c.requires.accepted c.make_frames.ensures.moved c.in-Err.ensures.cause.failed
+    fault_serves c.args.kernel.now c.make_frames.new.kernel (g.S.Store.view c.args.store.now) (g.S.Store.view c.make_frames.new.store) c.args.id.0 c.requires.accepted c.make_frames.ensures.moved (rises_most (2 ^ 20) (2 ^ 22) c.args.kernel.now.memory.frames c.make_frames.new.kernel.memory.frames (omega arith) c.make_frames.ensures.rises) c.in-Err.ensures.cause.failed
 
 pub fill_pending-requires-clause-accepted : goal.fill_pending-requires-clause-accepted
 fill_pending-requires-clause-accepted g c =
@@ -102,7 +105,7 @@ fill_pending-requires-clause-can g c =
     let refused = refused_alike k mid v w n moved c.requires.accepted in
     let page : c.get-page.result ≡ mid.config.page = c.get-page.ensures.number ∙ c.page.ensures ∙ c.requires.good.spaced.page ∙ sym (ap (λ (j : Kernel). j.config.page) moved.only) in
     let number : c.page_count-count.result ≡ span mid.config.page range.off range.len = subst (λ (z : ℕ). c.page_count-count.result ≡ span z range.off range.len) page c.page_count-count.ensures.number in
-    aim_can mid n range moved.good a c.end_laws.ensures c.change_laws.ensures c.copy_laws.ensures c.moves_end_in_zeros.ensures.can (omega (arith, number, c.in-Ok.ensures.free)) c.make_frames.ensures.meters
+    aim_can mid n range moved.good (aim_region mid n range a) c.end_laws.ensures c.change_laws.ensures c.copy_laws.ensures c.moves_end_in_zeros.ensures.can (omega (arith, number, c.in-Ok.ensures.free)) c.make_frames.ensures.meters
 
 pub fill_pending-requires-clause-landed : goal.fill_pending-requires-clause-landed
 fill_pending-requires-clause-landed g c =
@@ -239,5 +242,5 @@ returns g c =
     let regions : regions_of (entry new.spaces.processes o.pid) ≡ had.regions = ap (λ (s : AddressSpaces). regions_of (entry s.processes o.pid)) spaces ∙ ap regions_of had.there in
     let same : c.make_live.new.kernel ≡ lively new o.pid o.region.id.0 had.regions = c.make_live.ensures ∙ ap (lively new o.pid o.region.id.0) regions in
     let ended = over_ends c.end_laws.ensures c.change_laws.ensures c.copy_laws.ensures c.swap_laws.ensures c.buffers_show.ensures c.buffers_are_released.ensures.ends c.buffers_are_released.ensures.shows mid n range moved.good refused a owner c.fill_pending.new.kernel c.fill_pending.ensures new u o had c.end_waiting-transfer.ensures in
-    let done = moved_serves c.copy_laws.ensures c.paged_events_are_told.ensures k mid (lively new o.pid o.region.id.0 had.regions) v w n (reply.Input (Some (o.region.start * mid.config.page)) u.stored u.note) c.requires.accepted moved c.in-Ok.ensures.cause.kept (g.met.S.Store.paged c.make_frames.new.store) ended in
+    let done = moved_serves c.copy_laws.ensures c.paged_events_are_told.ensures k mid (lively new o.pid o.region.id.0 had.regions) v w n (reply.Input (Some (o.region.start * mid.config.page)) u.stored u.note) c.requires.accepted moved (rises_most (2 ^ 20) (2 ^ 22) k.memory.frames mid.memory.frames (omega arith) c.make_frames.ensures.rises) c.in-Ok.ensures.cause.kept (g.met.S.Store.paged c.make_frames.new.store) ended in
     subst (λ (x : Kernel). Serves k (Finish n) x v w (reply.Input (Some (o.region.start * c.get-page.result)) u.stored u.note)) (sym same) (subst (λ (z : ℕ). Serves k (Finish n) (lively new o.pid o.region.id.0 had.regions) v w (reply.Input (Some (o.region.start * z)) u.stored u.note)) (sym page) done)

@@ -18,7 +18,7 @@ pub make_own-requires-clause-pending : goal.make_own-requires-clause-pending
 make_own-requires-clause-pending g c = found_some c.args.kernel.now c.args.id.0 c.requires.accepted
 
 pub returns-in-Err : goal.returns-in-Err
-returns-in-Err g c = fault_serves c.args.kernel.now c.make_own.new.kernel (g.S.Store.view c.args.store.now) (g.S.Store.view c.make_own.new.store) c.args.id.0 c.requires.accepted c.make_own.ensures.moved c.in-Err.ensures.cause.failed
+returns-in-Err g c = fault_serves c.args.kernel.now c.make_own.new.kernel (g.S.Store.view c.args.store.now) (g.S.Store.view c.make_own.new.store) c.args.id.0 c.requires.accepted c.make_own.ensures.moved c.make_own.ensures.rises c.in-Err.ensures.cause.failed
 
 pub copy_pending-requires : goal.copy_pending-requires
 copy_pending-requires g c =
@@ -46,5 +46,5 @@ returns g c =
     let w = g.S.Store.view c.make_own.new.store in
     let t = c.end_waiting-transfer.result in
     let y = after_own k mid c.args.id.0 c.args.range.now v w c.requires.accepted (found_some k c.args.id.0 c.requires.accepted) c.requires.case c.requires.target c.make_own.ensures.moved in
-    moved_serves c.copy_laws.ensures c.paged_events_are_told.ensures k mid c.end_waiting-transfer.new.kernel v w c.args.id.0 (reply.Input None t.stored t.note) c.requires.accepted c.make_own.ensures.moved c.in-Ok.ensures.cause.kept (g.met.S.Store.paged c.make_own.new.store)
+    moved_serves c.copy_laws.ensures c.paged_events_are_told.ensures k mid c.end_waiting-transfer.new.kernel v w c.args.id.0 (reply.Input None t.stored t.note) c.requires.accepted c.make_own.ensures.moved c.make_own.ensures.rises c.in-Ok.ensures.cause.kept (g.met.S.Store.paged c.make_own.new.store)
     (copy_returns c.end_laws.ensures c.copy_laws.ensures c.buffers_show.ensures c.buffers_are_released.ensures.ends c.buffers_are_released.ensures.shows mid c.copy_pending.new.kernel c.end_waiting-transfer.new.kernel c.args.id.0 t c.args.range.now c.make_own.ensures.moved.good y c.copy_pending.ensures c.end_waiting-transfer.ensures)

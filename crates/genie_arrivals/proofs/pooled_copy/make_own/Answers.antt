@@ -4,6 +4,7 @@ use Rattle.genie_hiding.specs.Rooms.{available}
 use Rattle.genie_object.specs.Lemmas.Works.{below_more}
 use Rattle.genie_object.specs.Objects.{object_at}
 use Rattle.genie_kernel.specs.declared.kernel.Kernel.{Kernel}
+use Rattle.genie_kernel.specs.Lemmas.Rising.{rises_most, rises_on}
 use Rattle.genie_arrivals.proofs.PooledAim.{few_pages, own_range, own_shows, pooled_aim, pooled_moved, pooled_roomy}
 use Rattle.genie_arrivals.proofs.pooled_copy.make_own.Goals as goal
 
@@ -70,11 +71,30 @@ returns-in-Ok-own_pages-clause-meters g c =
     let roomy = pooled_roomy c.copy_laws.ensures c.args.kernel.now c.args.id.0 c.args.range.now c.requires.good (pooled_aim c.args.kernel.now c.args.id.0 c.args.range.now c.requires.pending c.requires.case c.requires.target) in
     let page : c.get-page.result ≡ c.args.kernel.now.config.page = c.get-page.ensures.number ∙ c.page.ensures ∙ c.requires.good.spaced.page in
     let most = subst (λ (z : ℕ). span z c.args.range.now.off c.args.range.now.len ≤ 65) (sym page) roomy.most in
-    below_more (2 ^ 63 + 2 ^ 20 + 8192 * c.page_count-count.result) (2 ^ 63 + 2 ^ 22) c.own_pages.new.memory.frames.meters (omega (arith, most, c.page_count-count.ensures.number)) c.own_pages.ensures.owns.below
+    below_more (2 ^ 63 + 2 ^ 20 + 8192 * c.page_count-count.result) (2 ^ 63 + 2 ^ 22) c.own_pages.new.memory.frames.meters (omega (arith, most, c.page_count-count.ensures.number)) (c.own_pages.ensures.owns.rises.meters (2 ^ 63 + 2 ^ 20) c.make_frames.ensures.meters)
 
 pub returns-in-Err-own_pages-clause-meters : goal.returns-in-Err-own_pages-clause-meters
 returns-in-Err-own_pages-clause-meters g c =
     let roomy = pooled_roomy c.copy_laws.ensures c.args.kernel.now c.args.id.0 c.args.range.now c.requires.good (pooled_aim c.args.kernel.now c.args.id.0 c.args.range.now c.requires.pending c.requires.case c.requires.target) in
     let page : c.get-page.result ≡ c.args.kernel.now.config.page = c.get-page.ensures.number ∙ c.page.ensures ∙ c.requires.good.spaced.page in
     let most = subst (λ (z : ℕ). span z c.args.range.now.off c.args.range.now.len ≤ 65) (sym page) roomy.most in
-    below_more (2 ^ 63 + 2 ^ 20 + 8192 * c.page_count-count.result) (2 ^ 63 + 2 ^ 22) c.own_pages.new.memory.frames.meters (omega (arith, most, c.page_count-count.ensures.number)) c.own_pages.ensures.owns.below
+    below_more (2 ^ 63 + 2 ^ 20 + 8192 * c.page_count-count.result) (2 ^ 63 + 2 ^ 22) c.own_pages.new.memory.frames.meters (omega (arith, most, c.page_count-count.ensures.number)) (c.own_pages.ensures.owns.rises.meters (2 ^ 63 + 2 ^ 20) c.make_frames.ensures.meters)
+
+pub returns-in-Ok-own_pages-clause-rises : goal.returns-in-Ok-own_pages-clause-rises
+returns-in-Ok-own_pages-clause-rises g c =
+    let roomy = pooled_roomy c.copy_laws.ensures c.args.kernel.now c.args.id.0 c.args.range.now c.requires.good (pooled_aim c.args.kernel.now c.args.id.0 c.args.range.now c.requires.pending c.requires.case c.requires.target) in
+    let page : c.get-page.result ≡ c.args.kernel.now.config.page = c.get-page.ensures.number ∙ c.page.ensures ∙ c.requires.good.spaced.page in
+    let most = subst (λ (z : ℕ). span z c.args.range.now.off c.args.range.now.len ≤ 65) (sym page) roomy.most in
+    rises_most (2 ^ 20 + 8192 * c.page_count-count.result) (2 ^ 22) c.args.kernel.now.memory.frames c.own_pages.new.memory.frames (omega (arith, most, c.page_count-count.ensures.number))
+    (rises_on (2 ^ 20) (8192 * c.page_count-count.result) c.args.kernel.now.memory.frames c.make_frames.new.kernel.memory.frames c.own_pages.new.memory.frames c.make_frames.ensures.rises c.own_pages.ensures.owns.rises)
+
+pub returns-in-Err-own_pages-clause-rises : goal.returns-in-Err-own_pages-clause-rises
+returns-in-Err-own_pages-clause-rises g c =
+    let roomy = pooled_roomy c.copy_laws.ensures c.args.kernel.now c.args.id.0 c.args.range.now c.requires.good (pooled_aim c.args.kernel.now c.args.id.0 c.args.range.now c.requires.pending c.requires.case c.requires.target) in
+    let page : c.get-page.result ≡ c.args.kernel.now.config.page = c.get-page.ensures.number ∙ c.page.ensures ∙ c.requires.good.spaced.page in
+    let most = subst (λ (z : ℕ). span z c.args.range.now.off c.args.range.now.len ≤ 65) (sym page) roomy.most in
+    rises_most (2 ^ 20 + 8192 * c.page_count-count.result) (2 ^ 22) c.args.kernel.now.memory.frames c.own_pages.new.memory.frames (omega (arith, most, c.page_count-count.ensures.number))
+    (rises_on (2 ^ 20) (8192 * c.page_count-count.result) c.args.kernel.now.memory.frames c.make_frames.new.kernel.memory.frames c.own_pages.new.memory.frames c.make_frames.ensures.rises c.own_pages.ensures.owns.rises)
+
+pub returns-in-Err-clause-rises : goal.returns-in-Err-clause-rises
+returns-in-Err-clause-rises g c = rises_most (2 ^ 20) (2 ^ 22) c.args.kernel.now.memory.frames c.make_frames.new.kernel.memory.frames (omega arith) c.make_frames.ensures.rises

@@ -4,10 +4,10 @@ use Rattle.genie_arrivals.proofs.PooledOwn.{own_more, own_next, own_none, own_wi
 use Rattle.genie_arrivals.proofs.pooled_room.own_pages.Goals as goal
 
 pub pages-init : goal.pages-init
-pages-init g c = own_none c.args.memory.now (g.S.Store.view c.args.store.now) c.args.object.0 c.args.first c.requires.sound c.requires.sized c.requires.meters
+pages-init g c = own_none c.args.memory.now (g.S.Store.view c.args.store.now) c.args.object.0 c.args.first c.requires.sound c.requires.sized
 
 pub resolve_write-requires-clause-meters : goal.resolve_write-requires-clause-meters
-resolve_write-requires-clause-meters g c = below_more (2 ^ 63 + 2 ^ 20 + 8192 * c.pages.k) (2 ^ 64 - 2 ^ 20) c.pages.memory.frames.meters (omega (arith, c.pages-test.true, c.requires.most)) c.pages.invariant.owns.below
+resolve_write-requires-clause-meters g c = below_more (2 ^ 63 + 2 ^ 20 + 8192 * c.pages.k) (2 ^ 64 - 2 ^ 20) c.pages.memory.frames.meters (omega (arith, c.pages-test.true, c.requires.most)) (c.pages.invariant.owns.rises.meters (2 ^ 63 + 2 ^ 20) c.requires.meters)
 
 pub resolve_write-requires-clause-there : goal.resolve_write-requires-clause-there
 resolve_write-requires-clause-there g c = omega (arith, c.pages-test.true, c.requires.within, c.pages.invariant.owns.moves.keeps.entries c.args.object.0)

@@ -1,3 +1,5 @@
+use Rattle.std.proofs.Common.{◌^◌, arith}
+use Rattle.genie_kernel.specs.Lemmas.Rising.{rises_moved}
 use Rattle.genie_arrivals.proofs.room.make_frames.Goals as goal
 
 pub returns-in-Ok-clause-moved : goal.returns-in-Ok-clause-moved
@@ -5,3 +7,9 @@ returns-in-Ok-clause-moved g c = c.memory_moves.ensures.room c.args.kernel.now _
 
 pub returns-in-Err-clause-moved : goal.returns-in-Err-clause-moved
 returns-in-Err-clause-moved g c = c.memory_moves.ensures.room c.args.kernel.now _ (g.S.Store.view c.args.store.now) (g.S.Store.view c.make_room.new.store) c.requires.good c.requires.sized (λ i. record (c.args.kernel.now) { memory = c.make_room.new.memory; hidden = c.make_room.ensures.hidden i; clock = c.make_room.new.clock }) c.make_room.ensures.room
+
+pub returns-in-Ok-clause-rises : goal.returns-in-Ok-clause-rises
+returns-in-Ok-clause-rises g c = rises_moved 0 0 8192 0 (2 ^ 20) c.args.kernel.now.memory.frames c.make_room.new.memory.frames c.make_room.ensures.meters c.make_room.ensures.room.landed (omega arith)
+
+pub returns-in-Err-clause-rises : goal.returns-in-Err-clause-rises
+returns-in-Err-clause-rises g c = rises_moved 0 0 8192 0 (2 ^ 20) c.args.kernel.now.memory.frames c.make_room.new.memory.frames c.make_room.ensures.meters c.make_room.ensures.room.landed (omega arith)

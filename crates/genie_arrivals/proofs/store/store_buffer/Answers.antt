@@ -4,8 +4,10 @@ use Rattle.genie_base.specs.Counts.{span}
 use Rattle.genie_input.specs.Buffers.{AreBuffers}
 use Rattle.genie_plan.specs.Loans.{AreOut, Ended, input_loans}
 use Rattle.genie_plan.specs.Plans.{input_frames}
+use Rattle.genie_object.specs.Lemmas.Works.{page_most}
 use Rattle.genie_arrivals.specs.Stored.{StoresBuffer}
 use Rattle.genie_arrivals.proofs.Joining.{buffer_stored, buffers_taken, frames_split, frames_taken, rest_out, rest_taken}
+use Rattle.genie_arrivals.proofs.Rising.{rises_stored}
 use Rattle.genie_arrivals.proofs.store.store_buffer.Goals as goal
 
 pub store_range-requires-clause-buffers : goal.store_range-requires-clause-buffers
@@ -30,4 +32,6 @@ returns c =
     let covers : 0 < c.args.range.now.len → c.args.range.now.off % m.frames.page + c.args.range.now.len ≤ m.frames.page * n = subst (λ (z : ℕ). 0 < c.args.range.now.len → c.args.range.now.off % z + c.args.range.now.len ≤ z * n) page c.page_count-count.ensures.covers in
     let covered = subst (λ (z : ℕ). 0 < c.args.range.now.len → c.args.range.now.off % m.frames.page + c.args.range.now.len ≤ m.frames.page * z) (sym long) covers in
     let ended : Ended (input_loans (drop n l)) c.store_range.new.memory.frames c.end_inputs.new.frames = subst (λ (b : List InLoan). Ended (input_loans b) c.store_range.new.memory.frames c.end_inputs.new.frames) (rest_taken n l) c.end_inputs.ensures in
-    subst (λ (f : List ℕ). StoresBuffer m (record (c.store_range.new.memory) { frames = c.end_inputs.new.frames }) c.args.range.now.object.0 c.args.range.now.off c.args.range.now.len f) (sym (frames_split n l)) (buffer_stored m c.store_range.new.memory c.args.range.now.object.0 c.args.range.now.off c.args.range.now.len c.args.few (take n l) (drop n l) c.requires.sound split c.store_range.ensures.stored c.ended_loans_show_what_was_seen.ensures.sound c.ended_loans_show_what_was_seen.ensures.seen c.end_inputs.new.frames (long ∙ number) covered c.len.ensures.shaped c.len.ensures.lent ended)
+    let few : length (input_frames (take n l)) ≤ 65 = omega (arith, long, number, c.requires.number, c.requires.most) in
+    let rises = rises_stored m c.store_range.new.memory c.end_inputs.new.frames c.args.range.now.object.0 c.args.range.now.off c.args.range.now.len c.args.few (input_frames (take n l)) (input_loans (drop n l)) (page_most m.frames.page c.requires.sound.shaped.size) few c.store_range.ensures.stored ended in
+    subst (λ (f : List ℕ). StoresBuffer m (record (c.store_range.new.memory) { frames = c.end_inputs.new.frames }) c.args.range.now.object.0 c.args.range.now.off c.args.range.now.len f) (sym (frames_split n l)) (buffer_stored m c.store_range.new.memory c.args.range.now.object.0 c.args.range.now.off c.args.range.now.len c.args.few (take n l) (drop n l) c.requires.sound split c.store_range.ensures.stored c.ended_loans_show_what_was_seen.ensures.sound c.ended_loans_show_what_was_seen.ensures.seen c.end_inputs.new.frames (long ∙ number) covered c.len.ensures.shaped c.len.ensures.lent ended rises)
