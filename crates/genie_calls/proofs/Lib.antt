@@ -4,3 +4,4 @@ pub mod Closed
 pub mod Serving
 pub mod Handles
 pub mod OfKinds
+mod Rising

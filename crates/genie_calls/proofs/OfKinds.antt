@@ -1,5 +1,5 @@
 -- What is so of devices of a kind, and of the transfers on them.
-use Rattle.std.proofs.Common.{◌≡◌, ℕ, ◌<◌, zero, suc, true, false, not, List, [], ◌∷◌, refl, sym, ap, subst, ◌∙◌, arith, length}
+use Rattle.std.proofs.Common.{◌≡◌, ℕ, ◌<◌, zero, suc, true, not, List, [], ◌∷◌, refl, sym, ap, subst, ◌∙◌, arith, length}
 use Rattle.std.specs.Prelude.{Option, Some, None, IfSome, IsSome, find, is_some}
 use Rattle.std.specs.Option.{option_map}
 use Rattle.std.proofs.lemmas.Bool.{not-false}
@@ -11,7 +11,6 @@ use Rattle.genie_base.specs.declared.config.Kind.TheVariants.{Early, Outboard, P
 use Rattle.genie_base.specs.declared.event.Event.TheVariants.{Finish, Recv}
 use Rattle.genie_base.specs.declared.refusal.Refusal.TheVariants as cause
 use Rattle.genie_base.specs.declared.semantics.Class.{Class}
-use Rattle.genie_base.specs.declared.semantics.Class.TheVariants.{Move}
 use Rattle.genie_base.specs.declared.semantics.Direction.TheVariants.{Inward}
 use Rattle.genie_device.specs.Device.{DeviceView}
 use Rattle.genie_input.specs.Pools.{PoolState}
@@ -35,7 +34,7 @@ use Rattle.genie_arrivals.specs.Outboard.{IsLateOutboard}
 use Rattle.genie_arrivals.specs.Pooled.{IsPooledInput, IsPooledOf}
 use Rattle.genie_arrivals.specs.Pooled as arrivals
 use Rattle.genie_pooling.specs.Pooled.{is_pooled_device, is_pooled_kind}
-use Rattle.genie_calls.specs.Kinds.{EndsOn, HasKind, IsInputOn, IsPooledMove, IsNoPooledMove, IsOfKind}
+use Rattle.genie_calls.specs.Kinds.{EndsOn, HasKind, IsInputOn, IsOfKind}
 use Rattle.genie_calls.proofs.Handles.{configured}
 
 -- a device of the table has one of its places
@@ -133,10 +132,3 @@ ends_pooled k n class on is = both (λ (t : Transfer) (o : IsInputOn Pooled k.de
 
 pub ends_outboard : (k : Kernel) (n : ℕ) (class : Class) → EndsOn Outboard k n → IfSome (find (has_number n) k.transfers) (λ (t : Transfer). class_of t.sem ≡ class) → IsLateOutboard class k n
 ends_outboard k n class on is = both (λ (t : Transfer) (o : IsInputOn Outboard k.devices t) e. record { inward = o.inward; class_is = e; outboard = kind_outboard (entry k.devices t.dev) o.device }) (find (has_number n) k.transfers) on is
-
-three : {P Q R : Transfer → Type 0} → ((t : Transfer) → P t → Q t → R t → ⊥) → (o : Option Transfer) → IsSome o → IfSome o P → IfSome o Q → IfSome o R → ⊥
-three f None is p q r = absurd (cc)
-three f (Some t) is p q r = f t p q r
-
-pub no_move : (k : Kernel) (n : ℕ) → refuse (outline k) (Finish n) ≡ None → EndsOn Pooled k n → IsNoPooledMove k n → IfSome (find (has_number n) k.transfers) (λ (t : Transfer). class_of t.sem ≡ Move) → ⊥
-no_move k n accepted on none is = three (λ (t : Transfer) (o : IsInputOn Pooled k.devices t) (h : IsPooledMove k.devices t → ⊥) e. h (record { inward = o.inward; class_is = e; pooled = o.device })) (find (has_number n) k.transfers) (finish_pending k n accepted) on none is

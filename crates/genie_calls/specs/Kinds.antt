@@ -1,12 +1,7 @@
 -- Devices by their kind, and the transfers that end by direction and kind of device.
-use Rattle.std.specs.Prelude.{◌≡◌, ℕ, List, find, Option, None, Some, IfSome, ⊤}
-use Rattle.genie_base.specs.Transfers.{class_of}
+use Rattle.std.specs.Prelude.{◌≡◌, ℕ, List, find, Option, None, Some, IfSome}
 use Rattle.genie_base.specs.declared.config.DeviceConfig.{DeviceConfig}
 use Rattle.genie_base.specs.declared.config.Kind.{Kind}
-use Rattle.genie_base.specs.declared.config.Kind.TheVariants.{Pooled}
-use Rattle.genie_base.specs.declared.event.Event.{Event}
-use Rattle.genie_base.specs.declared.event.Event.TheVariants.{Finish}
-use Rattle.genie_base.specs.declared.semantics.Class.TheVariants.{Move}
 use Rattle.genie_base.specs.declared.semantics.Direction.TheVariants.{Inward}
 use Rattle.genie_device.specs.Device.{DeviceView}
 use Rattle.genie_model.specs.Tables.{entry}
@@ -32,18 +27,3 @@ pub record IsInputOn (kind : Kind) (devices : List (Option DeviceView)) (t : Tra
 -- the pending transfer of this number is one
 abbrev pub EndsOn : Kind → Kernel → ℕ → Type 0
 EndsOn kind k n = IfSome (find (has_number n) k.transfers) (IsInputOn kind k.devices)
-
--- a move input on a pooled device
-pub record IsPooledMove (devices : List (Option DeviceView)) (t : Transfer) : Type 0 where
-  pub inward : t.dir ≡ Inward
-  pub class_is : class_of t.sem ≡ Move
-  pub pooled : IsOfKind Pooled (entry devices t.dev)
-
--- the pending transfer of this number is none
-abbrev pub IsNoPooledMove : Kernel → ℕ → Type 0
-IsNoPooledMove k n = IfSome (find (has_number n) k.transfers) (λ t. IsPooledMove k.devices t → ⊥)
-
--- the event isn't the end of one
-abbrev pub EndsNoPooledMove : Kernel → Event → Type 0
-EndsNoPooledMove k (Finish n) = IsNoPooledMove k n
-EndsNoPooledMove k e = ⊤

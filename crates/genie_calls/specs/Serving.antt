@@ -1,5 +1,5 @@
 -- What an event leaves of the kernel, the host and the store, and what it may answer.
-use Rattle.std.specs.Prelude.{◌≡◌, ℕ, Bool, true, false}
+use Rattle.std.specs.Prelude.{◌≡◌, ℕ, ◌^◌, Bool, true, false}
 use Rattle.genie_base.specs.Events.{mark_of}
 use Rattle.genie_base.specs.declared.config.Config.{Config}
 use Rattle.genie_base.specs.declared.event.Event.{Event}
@@ -17,6 +17,7 @@ use Rattle.genie_kernel.specs.declared.kernel.Kernel.{Kernel}
 use Rattle.genie_kernel.specs.Good.{IsGood}
 use Rattle.genie_kernel.specs.Handles.{HasHandles, KeepsOthers}
 use Rattle.genie_kernel.specs.Kept.{Kept}
+use Rattle.genie_kernel.specs.Rising.{MetersRise}
 use Rattle.genie_kernel.specs.Steps.{StepsTold, DeviceCause, StoreCause}
 use Rattle.genie_kernel.specs.Told.{input_at, output_at}
 use Rattle.genie_kernel.specs.View.{view}
@@ -61,7 +62,8 @@ Touches TheStore mark old new v w = TouchesStore mark old new v w
 Touches (TheHandle h) mark old new v w = TouchesHandle h mark old new v w
 
 -- the kernel is good over a store of its size, and keeps what is lent and its configuration; what it stands for and the
--- reply are those of the flat machine's step; a failure has its cause, and the handles stay open
+-- reply are those of the flat machine's step; a failure has its cause, and the handles stay open; the meters rise by so much
+-- at most
 pub record Served (old new : Kernel) (e : Event) (before after : HostView) (v w : StoreView) (reply : Reply) : Type 0 where
   pub good : IsGood new
   pub sized : IsSized new.memory w
@@ -71,6 +73,7 @@ pub record Served (old new : Kernel) (e : Event) (before after : HostView) (v w 
   pub touches : Touches (touched_by old.config e) (mark_of reply) before after v w
   pub handles : HasHandles new.config after
   pub others : KeepsOthers old.config before after
+  pub rises : MetersRise (2 ^ 36) old.memory.frames new.memory.frames
 
 -- so it is of an event that touches neither the host nor the store, whatever they are
 abbrev pub ServedAlone : Kernel → Event → Kernel → Reply → Type 0

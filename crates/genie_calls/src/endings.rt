@@ -9,7 +9,6 @@ ghost use Rattle.genie_kernel.specs.Good.{IsGood};
 ghost use Rattle.genie_kernel.specs.View.{outline};
 ghost use Rattle.genie_endings.specs.Ends.{IsOutput};
 ghost use Rattle.genie_arrivals.specs.Cases.{IsOnEarly};
-ghost use Rattle.genie_calls.specs.Kinds.{IsNoPooledMove};
 ghost use Rattle.genie_calls.specs.Serving.{ServedAlone, ServedByStore};
 
 use crate::kinds::{is_output, kind_of};
@@ -50,14 +49,13 @@ pub(crate) fn finish_early<S: Store>(kernel: &mut Kernel, store: &mut S, id: u32
     genie_arrivals::finish::finish_input_early(kernel, store, TransferId(id))
 }
 
-// A transfer ends, but for a move input on a pooled device.
+// A transfer ends.
 pub(crate) fn finish<S: Store>(kernel: &mut Kernel, store: &mut S, id: u32) -> Reply<'static>
     requires good { IsGood kernel.old }
     requires sized { IsSized kernel.old.memory (S.view store.old) }
     requires meters { AreBelow (2 ^ 63) kernel.old.memory.frames.meters }
     requires landed { kernel.old.memory.frames.landed < 2 ^ 63 }
     requires accepted { refuse (outline kernel.old) (event.Finish id) ≡ None }
-    requires unmoved { IsNoPooledMove kernel.old id }
     ensures { ServedByStore kernel.old (event.Finish id) kernel.new (S.view store.old) (S.view store.new) result }
 {
     if is_output(kernel, id) {

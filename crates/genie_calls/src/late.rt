@@ -7,31 +7,30 @@ ghost use Rattle.genie_object.specs.Sound.{IsSized};
 ghost use Rattle.genie_model.specs.Refusing.{refuse};
 ghost use Rattle.genie_kernel.specs.Good.{IsGood};
 ghost use Rattle.genie_kernel.specs.View.{outline};
-ghost use Rattle.genie_calls.specs.Kinds.{EndsOn, IsNoPooledMove};
+ghost use Rattle.genie_calls.specs.Kinds.{EndsOn};
 ghost use Rattle.genie_calls.specs.Serving.{ServedByStore};
 
 use crate::kinds::class_at;
-use genie_arrivals::{outboard, outboard_copy, outboard_move, pooled, pooled_copy};
+use genie_arrivals::{outboard, outboard_copy, outboard_move, pooled, pooled_copy, pooled_move};
 use genie_base::{Class, Reply, TransferId};
 use genie_changes::settled::paged_events_are_told;
 use genie_kernel::Kernel;
 use genie_store::Store;
 
-// An input on a pooled device ends that is no move: what waits in its buffer is copied.
+// An input on a pooled device ends: what waits in its buffer is copied.
 pub(crate) fn finish_pooled<S: Store>(kernel: &mut Kernel, store: &mut S, id: u32) -> Reply<'static>
     requires good { IsGood kernel.old }
     requires sized { IsSized kernel.old.memory (S.view store.old) }
     requires meters { AreBelow (2 ^ 63) kernel.old.memory.frames.meters }
     requires accepted { refuse (outline kernel.old) (event.Finish id) ≡ None }
     requires case { EndsOn kind.Pooled kernel.old id }
-    requires unmoved { IsNoPooledMove kernel.old id }
     ensures { ServedByStore kernel.old (event.Finish id) kernel.new (S.view store.old) (S.view store.new) result }
 {
     paged_events_are_told();
     match class_at(kernel, id) {
         Class::Copy => pooled_copy::finish_copy_pooled(kernel, store, TransferId(id)),
         Class::Share => pooled::finish_share_pooled(kernel, TransferId(id)),
-        Class::Move => unreachable!(),
+        Class::Move => pooled_move::finish_move_pooled(kernel, store, TransferId(id)),
         Class::WeakMove => pooled::finish_weak_move_pooled(kernel, TransferId(id)),
     }
 }

@@ -7,9 +7,9 @@ ghost use Rattle.genie_model.specs.Refusing.{refuse};
 ghost use Rattle.genie_kernel.specs.Good.{IsGood};
 ghost use Rattle.genie_kernel.specs.Handles.{HasHandles, KeepsOthers};
 ghost use Rattle.genie_kernel.specs.Kept.{Kept};
+ghost use Rattle.genie_kernel.specs.Rising.{MetersRise};
 ghost use Rattle.genie_kernel.specs.Steps.{StepsTold};
 ghost use Rattle.genie_kernel.specs.View.{outline, view};
-ghost use Rattle.genie_calls.specs.Kinds.{EndsNoPooledMove};
 ghost use Rattle.genie_calls.specs.Serving.{Served, Touches, touched_by};
 
 use crate::access::{pageout, read, write};
@@ -23,7 +23,7 @@ use genie_kernel::Kernel;
 use genie_refusal::refuse;
 use genie_store::Store;
 
-// What an event does that isn't refused, but for the end of a move input on a pooled device.
+// What an event does that isn't refused.
 fn accept<'a, H: Host, S: Store>(
     kernel: &mut Kernel,
     host: &mut H,
@@ -38,7 +38,6 @@ fn accept<'a, H: Host, S: Store>(
     requires numbered { kernel.old.next < 2 ^ 32 - 1 }
     requires handles { HasHandles kernel.old.config (H.view host.old) }
     requires whole { IsTrue (is_whole event.now) }
-    requires unmoved { EndsNoPooledMove kernel.old event.now }
     requires accepted { refuse (outline kernel.old) event.now ≡ None }
     ensures { Served kernel.old kernel.new event.now (H.view host.old) (H.view host.new) (S.view store.old) (S.view store.new) result }
 {
@@ -97,7 +96,6 @@ fn serve<'a, H: Host, S: Store>(
     requires numbered { kernel.old.next < 2 ^ 32 - 1 }
     requires handles { HasHandles kernel.old.config (H.view host.old) }
     requires whole { IsTrue (is_whole event.now) }
-    requires unmoved { EndsNoPooledMove kernel.old event.now }
     ensures { Served kernel.old kernel.new event.now (H.view host.old) (H.view host.new) (S.view store.old) (S.view store.new) result }
 {
     match refuse(kernel, event) {
@@ -106,10 +104,9 @@ fn serve<'a, H: Host, S: Store>(
     }
 }
 
-/// One event, but for the end of a move input on a pooled device. It is refused, which leaves all as it is, or
-/// done: what the kernel stands for afterwards and the reply are those of the flat machine's step. The bytes that a process
-/// reads are lent from `into`. It takes no memory.
-pub fn step_but_pooled_moves<'a, H: Host, S: Store>(
+/// One event. It is refused, which leaves all as it is, or done: what the kernel stands for afterwards and the reply are those
+/// of the flat machine's step. The bytes that a process reads are lent from `into`. It takes no memory.
+pub fn step<'a, H: Host, S: Store>(
     kernel: &mut Kernel,
     host: &mut H,
     store: &mut S,
@@ -129,9 +126,6 @@ pub fn step_but_pooled_moves<'a, H: Host, S: Store>(
     // The handles of the configuration are open in their directions, different from each other, and not 0.
     requires handles { HasHandles kernel.old.config (H.view host.old) }
     requires whole { IsTrue (is_whole event.now) }
-
-    // It is not the end of such an input.
-    requires unmoved { EndsNoPooledMove kernel.old event.now }
     ensures good { IsGood kernel.new }
     ensures sized { IsSized kernel.new.memory (S.view store.new) }
 
@@ -146,6 +140,9 @@ pub fn step_but_pooled_moves<'a, H: Host, S: Store>(
     // The handles stay open, and each that the configuration doesn't name stays as it is.
     ensures handles { HasHandles kernel.new.config (H.view host.new) }
     ensures others { KeepsOthers kernel.old.config (H.view host.old) (H.view host.new) }
+
+    // So much at most is counted in one step: over a million steps from a boot the meters have room.
+    ensures rises { MetersRise (2 ^ 36) kernel.old.memory.frames kernel.new.memory.frames }
 {
     serve(kernel, host, store, event, into)
 }

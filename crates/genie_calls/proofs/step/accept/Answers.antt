@@ -1,5 +1,3 @@
-use Rattle.std.proofs.Common.{subst}
-use Rattle.genie_calls.specs.Kinds.{EndsNoPooledMove}
 use Rattle.genie_calls.proofs.Serving.{as_alone, as_host, as_store}
 use Rattle.genie_calls.proofs.step.accept.Goals as goal
 
@@ -50,6 +48,3 @@ returns-in-Send g c = as_host c.args.kernel.now c.send.new.kernel c.args.event.n
 
 pub returns-in-Recv : goal.returns-in-Recv
 returns-in-Recv g c = as_host c.args.kernel.now c.recv.new.kernel c.args.event.now _ c.recv.result c.in-Recv.is (g.H.Host.view c.args.host.now) (g.H.Host.view c.recv.new.host) (g.S.Store.view c.args.store.now) c.requires.sized (g.met.S.Store.paged c.args.store.now) c.recv.ensures
-
-pub finish-requires-clause-unmoved : goal.finish-requires-clause-unmoved
-finish-requires-clause-unmoved g c = subst (EndsNoPooledMove c.args.kernel.now) c.in-Finish.is c.requires.unmoved
