@@ -1,2 +1,4 @@
 pub mod Filled
 pub mod Lines
+pub mod MadeEvents
+pub mod MadeLines

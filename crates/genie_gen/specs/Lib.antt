@@ -2,6 +2,7 @@ pub mod Draws
 pub mod GenView
 pub mod Lemmas
 pub mod Rounds
+pub mod Scripts
 pub mod Sources
 pub mod Streams
 pub mod Tallies

@@ -3,6 +3,7 @@
 
 mod draws;
 pub mod host;
+pub mod laws;
 mod opened;
 mod reader;
 mod rounds;
@@ -15,6 +16,7 @@ mod written;
 
 pub use crate::draws::Round;
 pub use crate::host::GenHost;
+pub use crate::laws::made_scripts_are_whole;
 pub use crate::opened::Opened;
 pub use crate::reader::Reader;
 pub use crate::source::Source;

@@ -4,7 +4,7 @@ use Rattle.std.specs.Prelude.{Option, Some, None, Ok}
 use Rattle.std.proofs.lemmas.Bool.Decides.{nat_tests}
 use Rattle.genie_host.specs.Host.{HostView, OnlyHandle}
 use Rattle.genie_host.specs.OnlyHandle.{only_refl, only_trans}
-use Rattle.genie_script.specs.Judge.{Part, Booted, Refused, boot_part, device_part, device_said, first_said, is_device_text, is_long, stays, with_device}
+use Rattle.genie_script.specs.Judge.{Part, Booted, Refused, boot_part, device_part, device_said, first_said, has_place, is_device_text, is_long, stays, with_device}
 use Rattle.genie_script.specs.Lines.{line_of}
 use Rattle.genie_script.specs.Texts.{lines_of}
 use Rattle.genie_script.specs.declared.judge.BootLine.{BootLine}
@@ -18,15 +18,9 @@ use Rattle.genie_replay.specs.declared.script.LineStep.{LineStep}
 use Rattle.genie_replay.specs.declared.script.LineStep.TheVariants.{Line, End, TooLong}
 use Rattle.genie_replay.specs.Booting.{FindsBoot, ReadsDevices}
 use Rattle.genie_replay.specs.Lines.{IsPending, TakesLine}
-
-pub not_long : (before : ℕ) (line : List ℕ) → before < 1000000 → length line ≤ 8300 → is_long before line ≡ false
-not_long before line few short = grind (arith, nat_tests)
-
-pub long_bytes : (before : ℕ) (line : List ℕ) → 8300 < length line → is_long before line ≡ true
-long_bytes before line over = grind (arith, nat_tests)
-
-pub long_number : (before : ℕ) (line : List ℕ) → 1000000 ≤ before → is_long before line ≡ true
-long_number before line over = grind (arith, nat_tests)
+use Rattle.genie_replay.specs.Places.{IsPlaced}
+use Rattle.genie_replay.specs.Lemmas.Placing.{placed_more}
+use Rattle.genie_replay.specs.Lemmas.Remaining.{long_bytes, long_number, not_long}
 
 -- the boot part of the text is that of what is left of it
 abbrev pub SameBoot : Option (List ℕ) → Option (List ℕ) → ℕ → Type 0
@@ -109,9 +103,10 @@ pub record Adding (script : List ℕ) (first : Part) (before : ℕ) (old now : H
   pub only : OnlyHandle 1 old now
   pub count : (now.handle 1).faults ≡ (old.handle 1).faults
   pub same : SameDevices script first before text pending part at
+  pub placed : IsPlaced part
 
-pub adding_none : (script : List ℕ) (part : Part) (before : ℕ) (v : HostView) (text : Option (List ℕ)) → Adding script part before v v text text part before
-adding_none script part before v text = record { only = only_refl 1 v; count = refl; same = devices_none script part before text }
+pub adding_none : (script : List ℕ) (part : Part) (before : ℕ) (v : HostView) (text : Option (List ℕ)) → IsPlaced part → Adding script part before v v text text part before
+adding_none script part before v text placed = record { only = only_refl 1 v; count = refl; same = devices_none script part before text; placed = placed }
 
 stays_here : (at : ℕ) (line : List ℕ) → at < 1000000 → length line ≤ 8300 → is_device_text line ≡ true → stays at line ≡ true
 stays_here at line few short is = rw (is, not_long at line few short) refl
@@ -137,15 +132,17 @@ adding_passed E script first before old u w text p q line part at so only count 
   only = only_trans 1 old u w so.only only;
   count = count ∙ so.count;
   same = devices_passed E script first before text p q line part at so.same t few is said;
+  placed = so.placed;
 }
 
 pub adding_device : (E : Type 0) (script : List ℕ) (first : Part) (before : ℕ) (old u w : HostView) (text p q : Option (List ℕ)) (line : List ℕ) (part after : Part) (at : ℕ) (d : DeviceLine)
-    → Adding script first before old u text p part at → OnlyHandle 1 u w → (w.handle 1).faults ≡ (u.handle 1).faults → TakesLine {E = E} p q (Ok Line) line → at < 1000000 → is_device_text line ≡ true → Taken d ≡ device_said script part at (line_of line) → after ≡ with_device part d
+    → Adding script first before old u text p part at → OnlyHandle 1 u w → (w.handle 1).faults ≡ (u.handle 1).faults → TakesLine {E = E} p q (Ok Line) line → at < 1000000 → is_device_text line ≡ true → Taken d ≡ device_said script part at (line_of line) → after ≡ with_device part d → has_place part.config d ≡ true
     → Adding script first before old w text q after (at + 1)
-adding_device E script first before old u w text p q line part after at d so only count t few is said added = rw added (record {
+adding_device E script first before old u w text p q line part after at d so only count t few is said added has = rw added (record {
   only = only_trans 1 old u w so.only only;
   count = count ∙ so.count;
   same = devices_added E script first before text p q line part at d so.same t few is said;
+  placed = placed_more part d so.placed has;
 })
 
 pub devices_refused : (E F : Type 0) (script : List ℕ) (first : Part) (before : ℕ) (text p q : Option (List ℕ)) (line : List ℕ) (part : Part) (at : ℕ) (e : Ending)

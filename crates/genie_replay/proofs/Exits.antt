@@ -21,9 +21,9 @@ use Rattle.genie_replay.specs.Plays.{Leaves, OnlyRun, Played, PlayedInPart, Play
 use Rattle.genie_replay.specs.Serving.{Served, TakesLine, Untouched, plain_step}
 use Rattle.genie_replay.specs.Outcome.{texts, events_of}
 use Rattle.genie_replay.specs.Statuses.{status_of}
-use Rattle.genie_replay.proofs.Remaining.{NextIs, NoneLeft, SomeLeft}
+use Rattle.genie_replay.specs.Lemmas.Remaining.{NextIs, NoneLeft, SomeLeft}
 use Rattle.genie_replay.proofs.Stepping.{SoFar, events_more, follows_more, later_more, later_only, later_same, only_more, plain_more}
-use Rattle.genie_replay.proofs.Writing.{appends_more, ends_all, ends_more}
+use Rattle.genie_replay.specs.Lemmas.Writing.{appends_more, ends_all, ends_more}
 
 -- all events were stepped
 played : (start machine : Option State) (old u : HostView) (at : ℕ) (Left : List Numbered → Type 0) (events : List Numbered) → (so : SoFar start machine old u at Left) → events ≡ so.done → Played so.first events machine old u

@@ -13,7 +13,7 @@ use Rattle.genie_replay.specs.declared.inputs.Unread.{Unread}
 use Rattle.genie_replay.specs.declared.inputs.Unread.TheVariants as unread
 use Rattle.genie_replay.specs.Files.{HoldsOfFile, HoldsOfInputs, IsReading, IsSameHandle, KeptUpTo, OnlyReads, SameFaults, file_opening, last_handle, openings_of}
 use Rattle.genie_replay.specs.Inputs.{Counts, HasInputs, ReadsInput, ReadsInputs, SetsInput, SetsInputs, Tells}
-use Rattle.genie_replay.proofs.Filing.{inputs_map, line_within, lines_within, only_faults, outputs_all, outputs_map, rose_after, same_faults, same_trans}
+use Rattle.genie_replay.specs.Lemmas.Filing.{inputs_map, line_within, lines_within, only_faults, outputs_all, outputs_map, rose_after, same_faults, same_trans}
 use Rattle.genie_replay.proofs.Reading.{consumes_more}
 
 -- a file so far

@@ -1,12 +1,9 @@
 pub mod Boots
 pub mod Exits
-pub mod Filing
 pub mod Gathering
 pub mod Making
 pub mod Opening
 pub mod Reading
-pub mod Remaining
 pub mod Running
 pub mod Starting
 pub mod Stepping
-pub mod Writing

@@ -23,13 +23,10 @@ use Rattle.genie_replay.specs.Outcome.{CutOf, CutShort, HasAll, HasFront, IsOutc
 use Rattle.genie_replay.specs.Statuses.{status_of}
 use Rattle.genie_replay.specs.Write.{AppendsFront}
 use Rattle.genie_replay.specs.Lines.{IsPending}
-use Rattle.genie_replay.proofs.Filing.{fresh_unwritten, inputs_map, outputs_all, outputs_both, outputs_map, outputs_within, unopened}
+use Rattle.genie_replay.specs.Lemmas.Filing.{inputs_map, outputs_all, outputs_both, unopened}
+use Rattle.genie_replay.specs.Lemmas.Opened.{OnlyScript, Opened, keeps_same, ran_nothing, read_nothing, script_read, short_read, still_fresh}
 use Rattle.genie_replay.proofs.Gathering.{only_reads}
 use Rattle.genie_replay.proofs.Starting.{KeptInput, sets_boot, sets_some}
-
-keeps_same : (k : Option (List ℕ)) → Keeps k k
-keeps_same None = tt
-keeps_same (Some x) = refl
 
 kept_appends : (u v w : Option (List ℕ)) (bytes : List ℕ) → Keeps u v → Appends v w bytes → Appends u w bytes
 kept_appends None v w bytes k a = tt
@@ -39,63 +36,6 @@ kept_appends (Some u) (Some v) (Some w) bytes k a = a ∙ ap (λ l. l ++ bytes) 
 
 kept_front : (u v w : Option (List ℕ)) (bytes : List ℕ) → Keeps u v → AppendsFront v w bytes → AppendsFront u w bytes
 kept_front u v w bytes k a = (a.0, a.1, a.2, kept_appends u v w a.0 k a.3)
-
--- the script was opened at most, and nothing else changed
-pub record OnlyScript (script : List ℕ) (old new : HostView) : Type 0 where
-  pub replies : new.handle 0 ≡ old.handle 0
-  pub tried : new.tried ≡ old.tried ++ (script, Inward) ∷ []
-  pub few : new.opened ≤ 1
-  pub behind : KeptBehind 1 old new
-
-pub script_refused : {E : Type 0} (script : List ℕ) (content : Option (List ℕ)) (e x : E) (old new : HostView) → old.opened ≡ 0 → Opens script Inward Reading content e old new (Err x) → OnlyScript script old new
-script_refused script content e x old new none a =
-    let count : new.opened ≡ old.opened = a.refused.0 in
-    record { replies = a.others 0 (λ s. omega (arith, s)); tried = a.tried; few = omega arith; behind = λ k high. a.others k (λ s. omega (arith, s, high, none)) }
-
-pub script_read : {E : Type 0} (script : List ℕ) (content : Option (List ℕ)) (e : E) (h : ℕ) (old first mid : HostView) → old.opened ≡ 0 → Opens script Inward Reading content e old first (Ok h) → OnlyHandle 1 first mid → OnlyScript script old mid
-script_read script content e h old first mid none a b =
-    let count : mid.opened ≡ 1 = b.opened ∙ a.opened ∙ ap (λ n. n + 1) none in
-    record {
-      replies = b.others 0 (λ x. cc) ∙ a.others 0 (λ x. omega (arith, x));
-      tried = b.tried ∙ a.tried;
-      few = omega arith;
-      behind = λ k high. b.others k (λ s. omega (arith, s, high)) ∙ a.others k (λ s. omega (arith, s, high, none));
-    }
-
--- the files are open, and nothing was written
-pub record Opened (script : List ℕ) (ds : List DeviceLine) (old read new : HostView) : Type 0 where
-  pub replies : new.handle 0 ≡ old.handle 0
-  pub input : new.handle 1 ≡ read.handle 1
-  pub outputs : HoldsOfOutputs (IsFresh old new) 1 ds
-  pub inputs : HoldsOfInputs (IsFreshFor old new) 1 ds
-  pub tried : new.tried ≡ old.tried ++ openings script ds
-  pub none : old.opened ≡ 0
-  pub count : new.opened ≡ last_handle 1 ds
-
-pub opened : {E : Type 0} (script : List ℕ) (ds : List DeviceLine) (content : Option (List ℕ)) (e : E) (h : ℕ) (old first read new : HostView) → old.opened ≡ 0
-    → Opens script Inward Reading content e old first (Ok h) → OnlyHandle 1 first read → OpensAll (flat_map openings_of ds) read new → KeptUpTo read.opened read new → HoldsOfOutputs (IsFresh read new) read.opened ds → HoldsOfInputs (IsFreshFor read new) read.opened ds → Opened script ds old read new
-opened script ds content e h old first read new none a b d kept fresh inputs =
-    let count : read.opened ≡ 1 = b.opened ∙ a.opened ∙ ap (λ n. n + 1) none in
-    let replies : read.handle 0 ≡ old.handle 0 = (script_read script content e h old first read none a b).replies in
-    record {
-      replies = kept 0 (omega arith) ∙ replies;
-      input = kept 1 (omega (arith, count));
-      outputs = outputs_map (IsFresh read new) (IsFresh old new) 1 ds (λ n k later q. subst (λ (x : HandleState). IsFreshOutput x.bytes (new.handle k)) replies q) (rw count at fresh);
-      inputs = inputs_map (IsFreshFor read new) (IsFreshFor old new) 1 ds (λ name k later q. subst (λ (n : List ℕ → Option (List ℕ)). IsFreshInput (n name) (new.handle k)) (b.names ∙ a.names) q) (rw count at inputs);
-      tried = d.tried ∙ ap (λ t. t ++ flat_map openings_of ds) (b.tried ∙ a.tried) ∙ append_assoc old.tried _ _;
-      none = none;
-      count = d.opened ∙ ap (λ n. n + length (flat_map openings_of ds)) count;
-    }
-
-pub opened_writing : (script : List ℕ) (ds : List DeviceLine) (old read new : HostView) → Opened script ds old read new → HoldsOfOutputs (IsWriting new) 1 ds
-opened_writing script ds old read new o = outputs_map (IsFresh old new) (IsWriting new) 1 ds (λ n h later f. f.mode) o.outputs
-
-pub opened_reading : (script : List ℕ) (ds : List DeviceLine) (old read new : HostView) → Opened script ds old read new → HoldsOfInputs (IsReading new) 1 ds
-opened_reading script ds old read new o = inputs_map (IsFreshFor old new) (IsReading new) 1 ds (λ name h later f. f.mode) o.inputs
-
--- the outputs are still fresh where the inputs were read
-still_fresh : (script : List ℕ) (ds : List DeviceLine) (old read new mid : HostView) → Opened script ds old read new → OnlyReads ds new mid → HoldsOfOutputs (IsFresh old mid) 1 ds
-still_fresh script ds old read new mid o b = outputs_both (IsFresh old new) (IsSameHandle new mid) (IsFresh old mid) 1 ds (λ n h f same. rw same f) o.outputs b.outputs
 
 begins : (script : List ℕ) (p : Part) (old read new mid : HostView) (start : State) → Opened script p.devices old read new → Started p new mid start → IsBoot old.names p.config p.devices start
 begins script p old read new mid start o b =
@@ -140,48 +80,6 @@ started_outcome (status.BadLine l) script p before lines old read new mid end st
 started_outcome status.TooLong script p before lines old read new mid end start o b r = (r.0, ran script p (events_from before lines) old read new mid end start o b r.1)
 started_outcome (status.BadBoot l) script p before lines old read new mid end start o b r = (r.0, ran script p (events_from before lines) old read new mid end start o b r.1)
 
--- cut short behind the openings, or among them
-short_read : (script : List ℕ) (ds : List DeviceLine) (old read new end : HostView) → Opened script ds old read new → OnlyReads ds new end → CutShort script ds old end
-short_read script ds old read new end o c =
-    let none : old.opened ≡ 0 = o.none in
-    let count : end.opened ≡ last_handle 1 ds = c.opened ∙ o.count in
-    record {
-      written = rw (c.replies, o.replies) (keeps_same (old.handle 0).bytes);
-      tried = record {
-        front = openings script ds;
-        rest = [];
-        split = sym (append-nil (openings script ds));
-        tried = c.tried ∙ o.tried;
-        opened = omega (arith, count);
-        refused = omega (arith, count, none);
-      };
-      begun = λ e. cc;
-      outputs = outputs_both (λ n h. h ≤ last_handle 1 ds) (IsFresh old end) (IsUnwritten old end) 1 ds (λ n h low f. fresh_unwritten old end n h (omega (arith, low, count)) f) (outputs_within 1 ds) (still_fresh script ds old read new end o c);
-    }
-
-pub short_opening : {E F T : Type 0} (script : List ℕ) (ds : List DeviceLine) (content : Option (List ℕ)) (e : E) (f x : F) (h : ℕ) (old first read end : HostView) → old.opened ≡ 0
-    → Opens script Inward Reading content e old first (Ok h) → OnlyHandle 1 first read → Opening {T = T} f (flat_map openings_of ds) read end (Err x) → HoldsOfOutputs (IsUnwritten read end) read.opened ds → CutShort script ds old end
-short_opening script ds content e f x h old first read end none a b c unwritten =
-    let only = script_read script content e h old first read none a b in
-    let count : read.opened ≡ 1 = b.opened ∙ a.opened ∙ ap (λ n. n + 1) none in
-    let some = c.tried in
-    record {
-      written = rw (c.kept 0 (omega arith), only.replies) (keeps_same (old.handle 0).bytes);
-      tried = record {
-        front = (script, Inward) ∷ some.front;
-        rest = some.rest;
-        split = ap (λ l. (script, Inward) ∷ l) some.split;
-        tried = some.tried ∙ ap (λ t. t ++ some.front) only.tried ∙ append_assoc old.tried _ _;
-        opened = omega (arith, count, none, some.opened);
-        refused = omega (arith, count, none, some.refused);
-      };
-      begun = λ e. cc;
-      outputs = outputs_map (IsUnwritten read end) (IsUnwritten old end) 1 ds (λ n k later q. record {
-        fresh = λ low. subst (λ (x : HandleState). IsFreshOutput x.bytes (end.handle k)) only.replies (q.fresh low);
-        closed = λ high. q.closed high ∙ only.behind k later;
-      }) (subst (λ n. HoldsOfOutputs (IsUnwritten read end) n ds) count unwritten);
-    }
-
 -- cut short before the reply to the boot part
 cut_outcome : (st : Status) (script : List ℕ) (p : Part) (before : ℕ) (lines : List (List ℕ)) (old read new end : HostView) → Opened script p.devices old read new → Cut p.devices new end st → IsOutcome script (Booted p before lines) old end st
 cut_outcome status.HostFault script p before lines old read new end o c = inl (short_read script p.devices old read new end o c)
@@ -219,10 +117,6 @@ booted_runs st p flat after ds (Some text) step line before old mid new u is sam
       runs = now lines pending;
     })
 
--- or the boot had no memory
-read_nothing : (ds : List DeviceLine) (v : HostView) → OnlyReads ds v v
-read_nothing ds v = record { replies = refl; outputs = outputs_all (IsSameHandle v v) 1 ds (λ n h later. refl); tried = refl; opened = refl }
-
 pub unbooted_runs : (p : Part) (text : Option (List ℕ)) (step : LineStep) (line : List ℕ) (before : ℕ) (v : HostView) → RunsBooted p text step line before v v status.NoMemory
 unbooted_runs p None step line before v = tt
 unbooted_runs p (Some text) step line before v = λ lines pending. inl (read_nothing p.devices v)
@@ -251,10 +145,6 @@ short_outcome E script content told rest line p step before old end k r c = (
   whole_outcome E status.HostFault script content told rest line p step before old end k r (λ text lines is pending. inl c),
   whole_outcome E status.NoMemory script content told rest line p step before old end k r (λ text lines is pending. inl c),
 )
-
--- nothing but the script was opened: its boot part ends it, or a failure cut the run short
-ran_nothing : (script : List ℕ) (old new : HostView) → OnlyScript script old new → RanNothing script old new
-ran_nothing script old new o = record { written = rw o.replies (keeps_same (old.handle 0).bytes); tried = o.tried }
 
 cut_any : (b : Boot) (script : List ℕ) (old new : HostView) → old.opened ≡ 0 → OnlyScript script old new → CutOf script b old new
 cut_any (Refused e) script old new none o = ran_nothing script old new o

@@ -17,9 +17,9 @@ use Rattle.genie_replay.specs.Files.{HandleRose, HasSent, HasSentFront, HoldsOfO
 use Rattle.genie_replay.specs.Outcome.{okay, texts}
 use Rattle.genie_replay.specs.Plays.{Leaves, OnlyRun, Played, PlayedInPart, Plays, PlaysFrom}
 use Rattle.genie_replay.specs.Write.{WritesAll}
-use Rattle.genie_replay.proofs.Filing.{front_none, only_faults, outputs_all, outputs_map}
+use Rattle.genie_replay.specs.Lemmas.Filing.{front_none, only_faults, outputs_all, outputs_map}
 use Rattle.genie_replay.proofs.Stepping.{later_more, later_same, plain_none}
-use Rattle.genie_replay.proofs.Writing.{appends_more, ends_all, up_to_behind}
+use Rattle.genie_replay.specs.Lemmas.Writing.{appends_more, ends_all, up_to_behind}
 
 -- `ok` was written, and then the events were run
 pub record Begun (old mid after : HostView) : Type 0 where

@@ -22,8 +22,8 @@ use Rattle.genie_replay.specs.Files.{SameFaults}
 use Rattle.genie_replay.specs.Outcome.{events_of, texts}
 use Rattle.genie_replay.specs.Plays.{IsFirst, LaterFaults, OnlyRun}
 use Rattle.genie_replay.specs.Serving.{Served, TakesLine, TakesLineFrom, Untouched, plain_step}
-use Rattle.genie_replay.proofs.Filing.{only_faults, same_faults, same_trans}
-use Rattle.genie_replay.proofs.Writing.{appends_nothing, appends_more}
+use Rattle.genie_replay.specs.Lemmas.Filing.{only_faults, same_faults, same_trans}
+use Rattle.genie_replay.specs.Lemmas.Writing.{appends_nothing, appends_more}
 
 -- one event more follows
 pub follows_more : (s : State) (es : List Event) (rs : List Reply) (last : State) (e : Event) → Follows s es rs last → Follows s (es ++ e ∷ []) (rs ++ (plain_step last e).1 ∷ []) (plain_step last e).0

@@ -4,6 +4,7 @@ ghost use Rattle.std.specs.Io.KnownBytes.{prepend_known};
 ghost use Rattle.genie_host.specs.Host.{Reading, OnlyHandle};
 ghost use Rattle.genie_base.specs.Causes.{HasCause};
 ghost use Rattle.genie_replay.specs.Booting.{FindsBoot, FitsFound, ReadsDevices, ReadsBoot, IsSmall};
+ghost use Rattle.genie_replay.specs.Places.{IsPlaced, IsPlacedRead};
 
 use crate::script::{LineStep, SCRIPT, Script};
 use genie_base::PageBuffer;
@@ -80,11 +81,13 @@ fn read_devices<H: Host>(
 ) -> Result<BootRead, Failed>
     requires input { ((H.view host.old).handle 1).mode ≡ Reading }
     requires few { before ≤ 1000000 }
+    requires placed { IsPlaced part }
     ensures only { OnlyHandle 1 (H.view host.old) (H.view host.new) }
     ensures cause { HasCause ((H.view host.old).handle 1).faults ((H.view host.new).handle 1).faults result }
     ensures devices { ReadsDevices name.now part before (prepend_known script.old ((H.view host.old).handle 1).bytes)
         (prepend_known script.new ((H.view host.new).handle 1).bytes) line.new result }
     ensures small { IfOk result IsSmall }
+    ensures placed { IfOk result IsPlacedRead }
 {
     let mut part = part;
     'lines: for at in before..MOST_LINES {
@@ -113,7 +116,8 @@ fn read_devices<H: Host>(
 }
 
 /// Reads the boot part of the script of this name, and the line behind it.
-pub(crate) fn read_boot<H: Host>(
+#[tactic(auto, using(crate::specs::Lemmas::Placing::placed_none))]
+pub fn read_boot<H: Host>(
     alloc: Global,
     host: &mut H,
     script: &mut Script,
@@ -127,6 +131,7 @@ pub(crate) fn read_boot<H: Host>(
     ensures boot { ReadsBoot name.now (prepend_known script.old ((H.view host.old).handle 1).bytes)
         (prepend_known script.new ((H.view host.new).handle 1).bytes) line.new result }
     ensures small { IfOk result IsSmall }
+    ensures placed { IfOk result IsPlacedRead }
 {
     match find_boot(host, script, line, bytes) {
         Err(error) => Err(error),

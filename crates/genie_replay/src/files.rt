@@ -55,8 +55,8 @@ fn open_line<H: Host>(host: &mut H, device: &DeviceLine) -> Result<(), OpenRefus
 }
 
 /// Opens the files of the devices, in the order of their lines.
-#[tactic(auto, using(crate::proofs::Filing::fresh_more, crate::proofs::Filing::inputs_more))]
-pub(crate) fn open_files<H: Host>(host: &mut H, devices: &[DeviceLine]) -> Result<(), OpenRefused>
+#[tactic(auto, using(crate::specs::Lemmas::Filing::fresh_more, crate::specs::Lemmas::Filing::inputs_more))]
+pub fn open_files<H: Host>(host: &mut H, devices: &[DeviceLine]) -> Result<(), OpenRefused>
     requires { (H.view host.old).opened + 2 * length devices.now < 20 }
     ensures opening { Opening OpenRefused.Failed (flat_map openings_of devices.now) (H.view host.old) (H.view host.new) result }
     ensures opened { OnOk result (OpensAll (flat_map openings_of devices.now) (H.view host.old) (H.view host.new)) }
@@ -74,7 +74,7 @@ pub(crate) fn open_files<H: Host>(host: &mut H, devices: &[DeviceLine]) -> Resul
 }
 
 /// How many files a device line names.
-pub(crate) fn file_count(device: &DeviceLine) -> u32
+pub fn file_count(device: &DeviceLine) -> u32
     ensures count { result ≡ length (openings_of device.now) }
     ensures most { result ≤ 2 }
 {
@@ -99,7 +99,7 @@ fn write_file<H: Host>(
 
 /// Writes what the devices have sent to their outputs, in the order of their lines, where so many files were opened
 /// before.
-#[tactic(auto, using(crate::proofs::Filing::files_none))]
+#[tactic(auto, using(crate::specs::Lemmas::Filing::files_none))]
 pub(crate) fn write_files<H: Host>(
     host: &mut H,
     flat: &Flat,

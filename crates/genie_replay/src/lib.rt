@@ -1,9 +1,9 @@
 //! The run of a script: its lines are read one by one, and each reply is written whole.
 #![tactic(auto)]
 
-mod booting;
+pub mod booting;
 pub mod command;
-mod files;
+pub mod files;
 mod inputs;
 mod make;
 mod play;

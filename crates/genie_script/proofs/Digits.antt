@@ -8,7 +8,7 @@ use Rattle.genie_script.specs.Hex.{nibble_of, pairs_of, bytes_of, hex_digit, hex
 use Rattle.genie_script.specs.Laws.{FitsBytes}
 use Rattle.genie_script.proofs.Each.{Each, each_none, each_some, each_bind, each_if, each_either}
 use Rattle.genie_script.proofs.Decimals.{of_both, both}
-use Rattle.genie_script.proofs.Spaced.{is_word}
+use Rattle.genie_script.proofs.Spaced.{is_free}
 use Rattle.genie_script.proofs.Spells.{Spells}
 
 low_digit : (n : ℕ) → n < 10 → hex_digit n ≡ 48 + n
@@ -88,7 +88,7 @@ pairs_again (b ∷ bytes) f =
     let same : 16 * (b / 16) + b % 16 ≡ b = omega arith in
     ap pairs_of (hex_cons b bytes) ∙ rw (nibble_again (b / 16) (omega arith), nibble_again (b % 16) (omega arith), pairs_again bytes (rest_fits b bytes f), same) refl
 
-length_hex : (bytes : List ℕ) → length (hex_text bytes) ≡ 2 * length bytes
+pub length_hex : (bytes : List ℕ) → length (hex_text bytes) ≡ 2 * length bytes
 length_hex [] = refl
 length_hex (b ∷ bytes) = ap length (hex_cons b bytes) ∙ omega (arith, length_hex bytes)
 
@@ -106,15 +106,15 @@ bytes_again bytes f =
     let len = length_hex bytes in
     rw (lt-ltb 0 (length (hex_text bytes)) (omega (arith, len, f.0)), lt-ltb (length (hex_text bytes)) 8193 (omega (arith, len, f.1.most))) (pairs_again bytes f.1.each)
 
-digit_word : (n : ℕ) → not (eqb (hex_digit n) 32) ≡ true
-digit_word n = elim (cases_lt n 10) [
-  | inl low ↦ rw (low_digit n low, ne_eqb (48 + n) 32 (λ e. omega (arith, e))) refl
-  | inr high ↦ rw (high_digit n high, ne_eqb (87 + n) 32 (λ e. omega (arith, e))) refl
+digit_other : (c n : ℕ) → c < 48 → not (eqb (hex_digit n) c) ≡ true
+digit_other c n lt = elim (cases_lt n 10) [
+  | inl low ↦ rw (low_digit n low, ne_eqb (48 + n) c (λ e. omega (arith, e, lt))) refl
+  | inr high ↦ rw (high_digit n high, ne_eqb (87 + n) c (λ e. omega (arith, e, lt))) refl
 ]
 
-hex_word : (bytes : List ℕ) → is_word (hex_text bytes) ≡ true
-hex_word [] = refl
-hex_word (b ∷ bytes) = ap is_word (hex_cons b bytes) ∙ both _ _ (digit_word (b / 16)) (both _ _ (digit_word (b % 16)) (hex_word bytes))
+pub hex_free : (c : ℕ) (bytes : List ℕ) → c < 48 → is_free c (hex_text bytes) ≡ true
+hex_free c [] lt = refl
+hex_free c (b ∷ bytes) lt = ap (is_free c) (hex_cons b bytes) ∙ both _ _ (digit_other c (b / 16) lt) (both _ _ (digit_other c (b % 16) lt) (hex_free c bytes lt))
 
 pub hex_texts : Spells bytes_of hex_text IsPage
-hex_texts = record { again = bytes_again; takes = bytes_take; word = λ bytes f. hex_word bytes }
+hex_texts = record { again = bytes_again; takes = bytes_take; word = λ bytes f. hex_free 32 bytes (omega arith) }

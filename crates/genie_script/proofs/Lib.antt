@@ -6,6 +6,7 @@ pub mod Grammar
 pub mod Joined
 pub mod Limits
 pub mod Pairs
+pub mod OneLine
 pub mod Parts
 pub mod Ports
 pub mod ReadAgain

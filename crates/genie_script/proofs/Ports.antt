@@ -94,7 +94,7 @@ port_again port (Some flow) lt f =
     let free = decimal_free 46 port refl (omega (arith, lt)) in
     rw (front_then 46 (decimal port) (decimal flow) free, back_then 46 (decimal port) (decimal flow) free, port_number_again port lt, number_again flow f) refl
 
-free_append : (c : ℕ) (v w : List ℕ) → is_free c v ≡ true → is_free c w ≡ true → is_free c (v ++ w) ≡ true
+pub free_append : (c : ℕ) (v w : List ℕ) → is_free c v ≡ true → is_free c w ≡ true → is_free c (v ++ w) ≡ true
 free_append c [] w e f = f
 free_append c (b ∷ v) w e f =
     let t = of_both (not (eqb b c)) (is_free c v) e in

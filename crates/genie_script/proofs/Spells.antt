@@ -1,10 +1,10 @@
 -- Each word has one spelling, and each spelling is one word.
-use Rattle.std.proofs.Common.{◌≡◌, ℕ, Bool, true, false, ltb, eqb, not, ◌&&◌, List, [], ◌∷◌, length, Option, Some, None, refl, sym, ap, ◌∙◌, decimal, inl, inr}
+use Rattle.std.proofs.Common.{◌≡◌, ℕ, ◌<◌, Bool, true, false, ltb, eqb, not, ◌&&◌, List, [], ◌∷◌, length, Option, Some, None, refl, sym, ap, ◌∙◌, decimal, inl, inr}
 use Rattle.std.specs.Prelude.{codes, bytes_eq, find}
 use Rattle.std.specs.Char.{is_ascii_digit}
 use Rattle.std.specs.List.{list_all}
 use Rattle.std.specs.Str.{all_ascii_digits}
-use Rattle.std.proofs.lemmas.Bool.{eqb-true}
+use Rattle.std.proofs.lemmas.Bool.{eqb-true, ltb-true}
 use Rattle.std.proofs.lemmas.Slice.Eq.{bytes_eq-Decides}
 use Rattle.genie_base.specs.declared.config.Kind.{Kind}
 use Rattle.genie_base.specs.declared.config.Kind.TheVariants.{Early, Pooled, Outboard}
@@ -120,17 +120,18 @@ modes = record { again = λ m f. mode_again m; takes = mode_takes; word = λ m f
 
 -- ---- names
 
-name_parts : (t : List ℕ) → is_name t ≡ true → (list_all is_name_byte t ≡ true) × (bytes_eq t (codes "-") ≡ false)
+pub name_parts : (t : List ℕ) → is_name t ≡ true → (list_all is_name_byte t ≡ true) × (bytes_eq t (codes "-") ≡ false) × (length t < 256)
 unfolding is_name
 name_parts t e =
     let all = of_both (ltb 0 (length t) && ltb (length t) 256 && list_all is_name_byte t) (not (bytes_eq t (codes "-"))) e in
-    ((of_both (ltb 0 (length t) && ltb (length t) 256) (list_all is_name_byte t) all.0).1, is_no (bytes_eq t (codes "-")) all.1)
+    let visible = of_both (ltb 0 (length t) && ltb (length t) 256) (list_all is_name_byte t) all.0 in
+    (visible.1, is_no (bytes_eq t (codes "-")) all.1, ltb-true (length t) 256 (of_both (ltb 0 (length t)) (ltb (length t) 256) visible.0).1)
 
-visible_word : (t : List ℕ) → list_all is_name_byte t ≡ true → is_word t ≡ true
-visible_word [] e = refl
-visible_word (b ∷ t) e =
+pub visible_free : (c : ℕ) (t : List ℕ) → is_name_byte c ≡ false → list_all is_name_byte t ≡ true → is_free c t ≡ true
+visible_free c [] f e = refl
+visible_free c (b ∷ t) f e =
     let h = of_both (is_name_byte b) (list_all is_name_byte t) e in
-    both _ _ (other is_name_byte 32 b h.0 refl) (visible_word t h.1)
+    both _ _ (other is_name_byte c b h.0 f) (visible_free c t f h.1)
 
 file_again : (file : Option (List ℕ)) → IsFile file → file_of (file_text file) ≡ Some file
 unfolding file_of
@@ -143,7 +144,7 @@ file_takes t = each_either (bytes_eq t (codes "-")) _ _ (λ e. each_some _ None 
 
 file_word : (file : Option (List ℕ)) → IsFile file → is_word (file_text file) ≡ true
 file_word None f = refl
-file_word (Some name) f = visible_word name (name_parts name f).0
+file_word (Some name) f = visible_free 32 name refl (name_parts name f).0
 
 pub files : Spells file_of file_text IsFile
 files = record { again = file_again; takes = file_takes; word = file_word }

@@ -1,5 +1,5 @@
 -- The grammar and the spelling of lines say the same.
-use Rattle.std.specs.Prelude.{◌≡◌, ℕ, ◌^◌, ◌<◌, ◌≤◌, ◌⊎◌, true, List, length, All, Option, Some, IfSome}
+use Rattle.std.specs.Prelude.{◌≡◌, ℕ, ◌^◌, ◌<◌, ◌≤◌, ◌⊎◌, true, List, ◌∷◌, ◌++◌, length, All, Option, Some, IfSome}
 use Rattle.genie_base.specs.declared.event.Event.{Event}
 use Rattle.genie_base.specs.declared.event.Event.TheVariants as event
 use Rattle.genie_script.specs.declared.line.Line.{Line}
@@ -8,6 +8,7 @@ use Rattle.genie_script.specs.declared.line.DeviceLine.{DeviceLine}
 use Rattle.genie_script.specs.Names.{is_name}
 use Rattle.genie_script.specs.Lines.{line_of, is_whole_line}
 use Rattle.genie_script.specs.Spelling.{line_text}
+use Rattle.genie_script.specs.Texts.{lines_of}
 
 abbrev pub IsNumber : ℕ → Type 0
 IsNumber n = n < 2 ^ 32
@@ -63,3 +64,11 @@ LinesAreReadAgain = (l : Line) → FitsLine l → is_whole_line l ≡ true → l
 -- Each text that is a line, and isn't blank, is that line's one spelling.
 abbrev pub LinesAreSpelledSo : Type 0
 LinesAreSpelledSo = (text : List ℕ) (l : Line) → line_of text ≡ Some l → (l ≡ line.Blank) ⊎ (text ≡ line_text l)
+
+-- Each spelling with a line end behind it is the first line of a text.
+abbrev pub SpellingsAreLines : Type 0
+SpellingsAreLines = (l : Line) → FitsLine l → (rest : List ℕ) → lines_of (line_text l ++ 10 ∷ rest) ≡ line_text l ∷ lines_of rest
+
+-- No spelling is longer than a line of a script may be.
+abbrev pub SpellingsAreShort : Type 0
+SpellingsAreShort = (l : Line) → FitsLine l → length (line_text l) ≤ 8300

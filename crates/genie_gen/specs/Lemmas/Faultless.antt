@@ -1,8 +1,7 @@
 -- Nothing ever fails on the host of a made run.
-use Rattle.std.proofs.Common.{◌≡◌, ℕ, ◌-◌, List, refl}
+use Rattle.std.proofs.Common.{◌≡◌, ℕ, ◌-◌, refl}
 use Rattle.std.specs.Prelude.{Option, Some, None, true, false, ◌==◌, slice_get, if◌then◌else◌}
 use Rattle.genie_host.specs.Handles.{state_in}
-use Rattle.genie_host.specs.Host.{HandleState}
 use Rattle.genie_gen.specs.declared.opened.Opened.{Opened}
 use Rattle.genie_gen.specs.declared.opened.Opened.TheVariants.{Reading, Writing}
 use Rattle.genie_gen.specs.GenView.{GenView, host_of, output_state, state_of}

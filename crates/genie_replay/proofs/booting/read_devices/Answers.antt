@@ -22,5 +22,5 @@ lines-preserved g c =
           rw w.part-is (adding_passed _ c.args.name.now c.args.part c.args.before _ _ _ _ _ _ c.next_line.new.line c.lines.part c.lines.at so read.only read.cause.kept read.line c.lines-test.true is said)
       | in-Taken+in-Ok w ↦
           let said = rw c.as_slice-in-lines.ensures.bytes at w.in-Taken.ensures.said in
-          rw w.part-is (adding_device _ c.args.name.now c.args.part c.args.before _ _ _ _ _ _ c.next_line.new.line c.lines.part _ c.lines.at w.in-Taken.device so read.only read.cause.kept read.line c.lines-test.true is said w.in-Ok.ensures.added)
+          rw w.part-is (adding_device _ c.args.name.now c.args.part c.args.before _ _ _ _ _ _ c.next_line.new.line c.lines.part _ c.lines.at w.in-Taken.device so read.only read.cause.kept read.line c.lines-test.true is said w.in-Ok.ensures.added w.in-Taken.ensures.place)
     ]

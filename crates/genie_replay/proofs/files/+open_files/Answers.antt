@@ -2,7 +2,7 @@ use Rattle.std.proofs.Common.{rules, ◌≡◌, ◌∷◌}
 use Rattle.std.specs.Prelude.{flat_map}
 use Rattle.std.proofs.lemmas.Grind.{common_steps}
 use Rattle.genie_replay.specs.Files.{openings_of}
-use Rattle.genie_replay.proofs.Filing.{opening_cut, opening_more, unwritten_cut, unwritten_more}
+use Rattle.genie_replay.specs.Lemmas.Filing.{opening_cut, opening_more, unwritten_cut, unwritten_more}
 use Rattle.genie_replay.proofs.files.+open_files.Goals as goal
 
 pub returns-in-Ok-clause-opening : goal.returns-in-Ok-clause-opening

@@ -1,7 +1,7 @@
 use Rattle.std.proofs.Common.{rules, ◌≡◌, ◌+◌, ◌∷◌, length}
 use Rattle.std.proofs.lemmas.Grind.{common_steps}
 use Rattle.genie_replay.specs.Files.{HoldsOfOutputs, IsWriting, openings_of}
-use Rattle.genie_replay.proofs.Filing.{files_failed, files_more, still_writing}
+use Rattle.genie_replay.specs.Lemmas.Filing.{files_failed, files_more, still_writing}
 use Rattle.genie_replay.proofs.files.+write_files.Goals as goal
 
 pub write_files-requires : goal.write_files-requires

@@ -1,6 +1,6 @@
 use Rattle.genie_base.specs.declared.semantics.Direction.TheVariants.{Inward, Outward}
 use Rattle.genie_replay.specs.Files.{file_opening}
-use Rattle.genie_replay.proofs.Filing.{opening_cut, opening_more}
+use Rattle.genie_replay.specs.Lemmas.Filing.{opening_cut, opening_more}
 use Rattle.genie_replay.proofs.files.open_line.Goals as goal
 
 pub returns-in-Ok-clause-opening : goal.returns-in-Ok-clause-opening

@@ -3,7 +3,7 @@ use Rattle.std.specs.Io.KnownBytes.{prepend_known}
 use Rattle.genie_host.specs.Host.{HandleState}
 use Rattle.genie_script.specs.declared.judge.Ending.TheVariants as ending
 use Rattle.genie_replay.proofs.Exits.{at_ending, at_host, at_memory, at_unread, stopped_ended, stopped_host, stopped_memory}
-use Rattle.genie_replay.proofs.Remaining.{LeftText, left_end, left_ended, left_long, left_many, left_next, left_none, left_passed, left_read, left_taken, some_left, some_left_text}
+use Rattle.genie_replay.specs.Lemmas.Remaining.{LeftText, left_end, left_ended, left_long, left_many, left_next, left_none, left_passed, left_read, left_taken, some_left, some_left_text}
 use Rattle.genie_replay.proofs.Stepping.{script_kept, so_far_none, so_read, so_taken}
 use Rattle.genie_replay.proofs.play.play.Goals as goal
 

@@ -1,5 +1,5 @@
 use Rattle.std.specs.Io.KnownBytes.{prepend_known}
-use Rattle.genie_replay.proofs.Remaining.{LeftLine}
+use Rattle.genie_replay.specs.Lemmas.Remaining.{LeftLine}
 use Rattle.genie_replay.proofs.Stepping.{SoFar}
 use Rattle.genie_replay.proofs.play.play.Given as goal
 

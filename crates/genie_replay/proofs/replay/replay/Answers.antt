@@ -1,7 +1,8 @@
 use Rattle.std.proofs.Common.{ap}
 use Rattle.std.specs.Io.KnownBytes.{prepend_known}
 use Rattle.genie_host.specs.Host.{HandleState}
-use Rattle.genie_replay.proofs.Opening.{opened, opened_reading, opened_writing, script_outcome, script_read, script_refused, short_opening, short_outcome, told_outcome}
+use Rattle.genie_replay.proofs.Opening.{script_outcome, short_outcome, told_outcome}
+use Rattle.genie_replay.specs.Lemmas.Opened.{opened, opened_reading, opened_writing, script_read, script_refused, short_opening}
 use Rattle.genie_replay.proofs.replay.replay.Goals as goal
 
 pub run_booted-requires-clause-outputs : goal.run_booted-requires-clause-outputs

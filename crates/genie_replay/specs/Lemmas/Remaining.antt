@@ -1,6 +1,7 @@
 -- What is left of the script, while its lines are taken one by one.
-use Rattle.std.proofs.Common.{◌≡◌, ℕ, ◌+◌, ◌<◌, ◌≤◌, true, false, List, [], ◌∷◌, ◌++◌, refl, ap, sym, ◌∙◌, append_assoc, append-nil}
+use Rattle.std.proofs.Common.{◌≡◌, ℕ, ◌+◌, ◌<◌, ◌≤◌, true, false, List, [], ◌∷◌, ◌++◌, refl, ap, sym, ◌∙◌, append_assoc, append-nil, length, arith}
 use Rattle.std.specs.Prelude.{Option, Some, None, Ok}
+use Rattle.std.proofs.lemmas.Bool.Decides.{nat_tests}
 use Rattle.genie_base.specs.declared.event.Event.{Event}
 use Rattle.genie_script.specs.Judge.{Numbered, ending_from, event_said, events_from, is_long}
 use Rattle.genie_script.specs.Lines.{line_of}
@@ -11,7 +12,15 @@ use Rattle.genie_script.specs.declared.judge.Judged.TheVariants.{Passed, Taken, 
 use Rattle.genie_replay.specs.declared.script.LineStep.{LineStep}
 use Rattle.genie_replay.specs.declared.script.LineStep.TheVariants.{Line, End, TooLong}
 use Rattle.genie_replay.specs.Lines.{IsPending, TakesLine}
-use Rattle.genie_replay.proofs.Boots.{long_bytes, long_number, not_long}
+
+pub not_long : (before : ℕ) (line : List ℕ) → before < 1000000 → length line ≤ 8300 → is_long before line ≡ false
+not_long before line few short = grind (arith, nat_tests)
+
+pub long_bytes : (before : ℕ) (line : List ℕ) → 8300 < length line → is_long before line ≡ true
+long_bytes before line over = grind (arith, nat_tests)
+
+pub long_number : (before : ℕ) (line : List ℕ) → 1000000 ≤ before → is_long before line ≡ true
+long_number before line over = grind (arith, nat_tests)
 
 -- the events of all lines are those that are done and those of the lines that are left, and the endings are one
 pub record Remains (before : ℕ) (lines : List (List ℕ)) (done : List Numbered) (at : ℕ) (now : List (List ℕ)) : Type 0 where

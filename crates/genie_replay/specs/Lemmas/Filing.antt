@@ -11,7 +11,7 @@ use Rattle.genie_model.specs.State.{State}
 use Rattle.genie_script.specs.declared.line.DeviceLine.{DeviceLine}
 use Rattle.genie_replay.specs.Files.{file_opening, openings_of, HandleRose, HasSent, HasSentFront, HoldsOfFile, HoldsOfInput, HoldsOfInputs, HoldsOfOutputs, IsFresh, IsFreshFor, IsFreshInput, IsFreshOutput, IsUnwritten, IsWriting, KeptUpTo, Opening, OpensAll, SameFaults, WritesFile, WritesFiles, last_handle}
 use Rattle.genie_replay.specs.Write.{AppendsFront}
-use Rattle.genie_replay.proofs.Writing.{appends_nothing}
+use Rattle.genie_replay.specs.Lemmas.Writing.{appends_nothing}
 
 file_map : (P Q : ℕ → ℕ → Type 0) (opened : ℕ) (d : DeviceLine) (o : Option (List ℕ)) → d.output ≡ o → ((n h : ℕ) → opened < h → P n h → Q n h) → HoldsOfFile P o d.number (opened + length (openings_of d)) → HoldsOfFile Q o d.number (opened + length (openings_of d))
 file_map P Q opened d None is f p = tt
