@@ -75,6 +75,7 @@ pub fn write<S: Store>(
 
     // Nothing of the kernel changes but the memory and the clock.
     ensures only { kernel.new ≡ with_memory kernel.old kernel.new.memory kernel.new.clock }
+    ensures numbers { kernel.new.next ≡ kernel.old.next }
     ensures step { (host : HostView) → StepsTold (view kernel.old host (S.view store.old)) (event.Write pid addr bytes.now) (view kernel.new host (S.view store.new)) result }
     ensures cause { StoreCause (mark_of result) (S.view store.old).faults (S.view store.new).faults }
 

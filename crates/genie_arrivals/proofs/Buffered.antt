@@ -144,6 +144,7 @@ module _ (laws : EndLaws) (show : BuffersShow) (end : ReleasedEnds) (release : R
       kept = freed_kept;
       step = λ slots rests sents. quiet_steps (state_of k (bytes_over k.memory slots rests sents)) (state_of freed (bytes_over ended slots rests sents)) n r (without_transfer (state_of k (bytes_over k.memory slots rests sents)) n) (fin (bytes_over k.memory slots rests sents)) mark (freed_shown slots rests sents);
       config = refl;
+      numbers = refl;
       unfailed = mark;
       meters = x.back.loans.meters ∙ x.back.wires.only.meters;
       landed = x.back.loans.landed ∙ x.back.wires.only.landed;

@@ -218,6 +218,7 @@ module _ (laws : EndLaws) (show : BuffersShow) (end : ReleasedEnds) (release : R
       sized = record { count = moved.sized.count ∙ sym x.keeps.slots; page = moved.sized.page ∙ sym x.keeps.page ∙ sym (z.back.loans.page ∙ z.back.wires.only.page) };
       kept = room.kept k mid last v w moved last_kept;
       config = ap (λ (j : Kernel). j.config) moved.only;
+      numbers = ap (λ (j : Kernel). j.next) moved.only;
       step = λ host. subst (λ s. StepsTold s (Finish n) (view last host w) answer) (moved.told host) (told mid last (Finish n) answer host w refused refl moved.sized paged steps_paged);
       cause = faults;
       rises = rises_most (2 ^ 22 + 2 ^ 34) (2 ^ 36) k.memory.frames new.memory.frames (omega arith) (rises_on (2 ^ 22) (2 ^ 34) k.memory.frames mid.memory.frames new.memory.frames rises (rises_back (2 ^ 34) t mid.memory.frames m.frames new.memory.frames x.rises z.back));

@@ -231,6 +231,7 @@ module _ (laws : EndLaws) (show : BuffersShow) (end : ReleasedEnds) (release : R
             kept = last_kept;
             step = λ slots rests sents have. quiet_steps (state_of k (bytes_over k.memory slots rests sents)) (state_of last (bytes_over last.memory slots rests sents)) n answer (put (without_transfer (state_of k (bytes_over k.memory slots rests sents)) n) q.id.0 t.offset payload) (share_fin (bytes_over k.memory slots rests sents)) refl (shown slots rests sents have);
             config = refl;
+            numbers = refl;
             unfailed = refl;
             rises = last_rises;
           };
@@ -282,6 +283,7 @@ module _ (laws : EndLaws) (show : BuffersShow) (end : ReleasedEnds) (release : R
             kept = record { lent = λ j f a b y. last_kept.lent j f a b (record { was = y.was; is = y.is }); pooled = last_kept.pooled; fresh = λ j f a b y. last_kept.fresh j f a b (record { was = y.was; is = y.is }) };
             step = λ slots rests sents have. quiet_steps (state_of k (bytes_over k.memory slots rests sents)) (state_of moved (bytes_over last.memory slots rests sents)) n moved_answer (turned (put (without_transfer (state_of k (bytes_over k.memory slots rests sents)) n) q.id.0 t.offset payload)) (moved_fin (bytes_over k.memory slots rests sents)) refl (live_of (bytes_over last.memory slots rests sents) ∙ ap turned (shown slots rests sents have));
             config = refl;
+            numbers = refl;
             unfailed = refl;
             rises = last_rises;
           };

@@ -421,13 +421,14 @@ module _ (laws : EndLaws) (change : ChangeLaws) (room : CopyLaws) (swap : SwapLa
       kept = kept_by;
       step = steps_paged;
       config = refl;
+      numbers = refl;
       unfailed = refl;
       rises = rises_owners (2 ^ 35) k.memory.frames fills.clear.frames m3.frames c.empties.frames (rises_most (2 ^ 20) (2 ^ 35) fills.clear.frames m3.frames (omega arith) fills.stores.rises);
     }
 
 -- an end that leaves all bytes as they are
 pub alone_ends : (k new : Kernel) (n : ℕ) (a : Reply) → EndsAlone k n new a → EndsPaged k n new a
-alone_ends k new n a e = record { good = e.good; sized = e.sized; kept = e.kept; step = λ slots rests sents have. e.step slots rests sents; config = e.config; unfailed = e.unfailed; rises = rises_same (2 ^ 35) k.memory.frames new.memory.frames e.meters e.landed }
+alone_ends k new n a e = record { good = e.good; sized = e.sized; kept = e.kept; step = λ slots rests sents have. e.step slots rests sents; config = e.config; numbers = e.numbers; unfailed = e.unfailed; rises = rises_same (2 ^ 35) k.memory.frames new.memory.frames e.meters e.landed }
 
 -- the object of a region is there
 pub object_there : (objects : List (List Entry)) (o pages : ℕ) → length (object_at objects o) ≡ pages → 0 < pages → object_at objects o ≢ []

@@ -268,6 +268,7 @@ module _ (laws : EndLaws) (change : ChangeLaws) (swap : SwapLaws) (show : Buffer
       kept = kept_by;
       step = steps_paged;
       config = refl;
+      numbers = refl;
       unfailed = refl;
       rises = rises_most (2 ^ 34) (2 ^ 35) k.memory.frames new.memory.frames (omega arith) (rises_back (2 ^ 34) t k.memory.frames m3.frames new.memory.frames (rises_owners (2 ^ 34) k.memory.frames clear.frames m3.frames c.empties.frames fills.stores.rises) e.back);
     })

@@ -118,6 +118,7 @@ module _ (laws : EndLaws) (change : ChangeLaws) (k : Kernel) (n q : ℕ) (t : Tr
         kept = record { lent = λ m f u v p. kept.lent m f u v (record { was = p.was; is = p.is }); pooled = kept.pooled; fresh = λ m f u v p. kept.fresh m f u v (record { was = p.was; is = p.is }) };
         step = λ slots rests sents. steps (bytes_over k.memory slots rests sents) (bytes_over mid.memory slots rests sents) (less_shown laws k n t g found ready F shaped owned back is.early slots rests sents);
         config = refl;
+        numbers = refl;
         unfailed = refl;
         meters = back.loans.meters ∙ back.wires.only.meters;
         landed = back.loans.landed ∙ back.wires.only.landed;

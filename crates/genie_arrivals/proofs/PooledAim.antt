@@ -197,6 +197,7 @@ moved_serves room told k mid new v w n a accepted moved rises faults paged e = r
   sized = e.sized w moved.sized;
   kept = room.kept k mid new v w moved e.kept;
   config = e.config ∙ ap (λ (z : Kernel). z.config) moved.only;
+  numbers = e.numbers ∙ ap (λ (z : Kernel). z.next) moved.only;
   step = λ host. subst (λ s. StepsTold s (Finish n) (view new host w) a) (moved.told host) (told mid new (Finish n) a host w (refused_alike k mid v w n moved accepted) e.config moved.sized paged e.step);
   cause = subst (λ (m : Mark). StoreCause m v.faults w.faults) (sym e.unfailed) faults;
   rises = rises_most (2 ^ 22 + 2 ^ 35) (2 ^ 36) k.memory.frames new.memory.frames (omega arith) (rises_on (2 ^ 22) (2 ^ 35) k.memory.frames mid.memory.frames new.memory.frames rises e.rises);

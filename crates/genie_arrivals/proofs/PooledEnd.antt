@@ -179,6 +179,7 @@ module _ (k : Kernel) (n : ℕ) (t : Transfer) (q : Region) (range : Range) (m :
         kept = last_kept;
         step = λ slots rests sents have. quiet_steps (state_of k (bytes_over k.memory slots rests sents)) (state_of last (bytes_over last.memory slots rests sents)) n answer (put (without_transfer (state_of k (bytes_over k.memory slots rests sents)) n) q.id.0 range.off (payload (seen k.memory slots).kept_bytes)) (fin (bytes_over k.memory slots rests sents)) mark (last_shown slots rests sents have);
         config = refl;
+        numbers = refl;
         unfailed = mark;
         rises = rises_most (2 ^ 34) (2 ^ 35) k.memory.frames new.memory.frames (omega arith) last_rises;
       })

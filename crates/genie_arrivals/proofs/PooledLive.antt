@@ -91,6 +91,7 @@ module _ (laws : EndLaws) (change : ChangeLaws) (show : BuffersShow) (end : Rele
         step = λ slots rests sents have. quiet_steps (state_of k (bytes_over k.memory slots rests sents)) (state_of live (bytes_over less.memory slots rests sents)) n answer (after (state_of k (bytes_over k.memory slots rests sents)) (seen k.memory slots).kept_bytes) (fin (bytes_over k.memory slots rests sents)) refl
             (live_of (bytes_over less.memory slots rests sents) ∙ ap (λ (s : flat.State). model.change_region s o.region.id.0 (model.with_state state.Live)) (last_shown k n t o.region range middle.memory c laws show end release new e slots rests sents have));
         config = refl;
+        numbers = refl;
         unfailed = refl;
         rises = rises_most (2 ^ 34) (2 ^ 35) k.memory.frames new.memory.frames (omega arith) (last_rises k n t o.region range middle.memory c laws show end release new e);
       })

@@ -203,6 +203,7 @@ module _ (laws : EndLaws) (change : ChangeLaws) (show : BuffersShow) (end : Rele
       kept = kept_by;
       step = steps_paged;
       config = refl;
+      numbers = refl;
       unfailed = refl;
       rises = rises_most (2 ^ 20 + 2 ^ 34) (2 ^ 35) k.memory.frames new.memory.frames (omega arith) (rises_on (2 ^ 20) (2 ^ 34) k.memory.frames m1.frames new.memory.frames blanks.rises (last_rises blank n t r range m2 c laws show end release new e));
     })

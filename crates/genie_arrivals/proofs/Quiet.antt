@@ -89,6 +89,7 @@ module _ (laws : EndLaws) (k : Kernel) (n : ℕ) (t : Transfer) (g : IsGood k) (
         kept = less_kept;
         step = λ slots rests sents. quiet_steps (state_of k (bytes_over k.memory slots rests sents)) (state_of less (bytes_over ended slots rests sents)) n r (without_transfer (state_of k (bytes_over k.memory slots rests sents)) n) (fin (bytes_over k.memory slots rests sents)) mark (less_shown slots rests sents);
         config = refl;
+        numbers = refl;
         unfailed = mark;
         meters = back.loans.meters ∙ back.wires.only.meters;
         landed = back.loans.landed ∙ back.wires.only.landed;

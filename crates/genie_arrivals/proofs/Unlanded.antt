@@ -11,7 +11,7 @@ use Rattle.genie_arrivals.specs.Outboard.{EndsLanded}
 
 pub alone_lands : (k new : Kernel) (n : ℕ) (r : Reply) → is_some (find (has_number n) k.transfers) ≡ true → EndsAlone k n new r → EndsLanded k n new r
 alone_lands k new n r some e = record {
-  ends = record { good = e.good; sized = e.sized; kept = e.kept; step = λ slots rests sents have. e.step slots rests sents; config = e.config; unfailed = e.unfailed; rises = rises_same (2 ^ 35) k.memory.frames new.memory.frames e.meters e.landed };
+  ends = record { good = e.good; sized = e.sized; kept = e.kept; step = λ slots rests sents have. e.step slots rests sents; config = e.config; numbers = e.numbers; unfailed = e.unfailed; rises = rises_same (2 ^ 35) k.memory.frames new.memory.frames e.meters e.landed };
   meters = e.meters;
   landed = by (find (has_number n) k.transfers) some;
 } where

@@ -12,13 +12,14 @@ use Rattle.genie_kernel.specs.Kept.{Kept}
 use Rattle.genie_kernel.specs.Steps.{StepsAlone}
 
 -- the kernel is good, what it stands for and the reply are those of the flat machine's step, whatever the host and the
--- store hold, and no frame is freed or gets another owner while a device holds it
+-- store hold, no frame is freed or gets another owner while a device holds it, and no number is given out
 pub record EndsAlone (old : Kernel) (n : ℕ) (new : Kernel) (reply : Reply) : Type 0 where
   pub good : IsGood new
   pub sized : (v : StoreView) → IsSized old.memory v → IsSized new.memory v
   pub kept : Kept old new
   pub step : StepsAlone old (Finish n) new reply
   pub config : new.config ≡ old.config
+  pub numbers : new.next ≡ old.next
   -- nothing fails, no byte moves or lands, and no page and no frame is taken
   pub unfailed : mark_of reply ≡ NoFault
   pub meters : new.memory.frames.meters ≡ old.memory.frames.meters

@@ -14,12 +14,13 @@ use Rattle.genie_changes.specs.Paged.{StepsPaged}
 
 -- the kernel is good, no frame is freed or gets another owner while a device holds it, and what it stands for and the
 -- reply are those of the flat machine's step, whatever the host holds and the slots of the store, which have a page each;
--- the meters rise by so much at most
+-- no number is given out, and the meters rise by so much at most
 pub record EndsPaged (old : Kernel) (n : ℕ) (new : Kernel) (reply : Reply) : Type 0 where
   pub good : IsGood new
   pub sized : (v : StoreView) → IsSized old.memory v → IsSized new.memory v
   pub kept : Kept old new
   pub step : StepsPaged old (Finish n) new reply
   pub config : new.config ≡ old.config
+  pub numbers : new.next ≡ old.next
   pub unfailed : mark_of reply ≡ NoFault
   pub rises : MetersRise (2 ^ 35) old.memory.frames new.memory.frames

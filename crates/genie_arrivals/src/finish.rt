@@ -74,6 +74,7 @@ pub fn finish_input_early<S: Store>(
     ensures sized { IsSized kernel.new.memory (S.view store.new) }
     ensures kept { Kept kernel.old kernel.new }
     ensures config { kernel.new.config ≡ kernel.old.config }
+    ensures numbers { kernel.new.next ≡ kernel.old.next }
     ensures step { (host : HostView) → StepsTold (view kernel.old host (S.view store.old)) (event.Finish id.0) (view kernel.new host (S.view store.new)) result }
     ensures cause { StoreCause (mark_of result) (S.view store.old).faults (S.view store.new).faults }
     ensures rises { MetersRise (2 ^ 36) kernel.old.memory.frames kernel.new.memory.frames }

@@ -81,6 +81,7 @@ module _ (laws : EndingLaws) (k mid : Kernel) (n : ℕ) (t : Transfer) (g : IsGo
         step = λ slots rests sents. steps (bytes_over k.memory slots rests sents) (bytes_over (record (k.memory) { frames = mid.memory.frames }) slots rests sents) (laws.shown k (record (k.memory) { frames = mid.memory.frames }) n t slots rests sents (laws.settled k g) ends.leaves);
         kept = record { lent = λ j f a b y. keeps.lent j f a b (record { was = y.was; is = y.is }); pooled = keeps.pooled; fresh = λ j f a b y. keeps.fresh j f a b (record { was = y.was; is = y.is }) };
         config = refl;
+        numbers = refl;
         unfailed = refl;
         meters = ends.back.loans.meters ∙ ends.back.wires.only.meters;
         landed = ends.back.loans.landed ∙ ends.back.wires.only.landed;

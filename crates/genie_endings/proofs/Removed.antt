@@ -149,6 +149,7 @@ module _ (laws : EndingLaws) (removals : RemovalLaws) (k mid new : Kernel) (n : 
         step = λ slots rests sents. steps (bytes_over k.memory slots rests sents) (bytes_over (record (k.memory) { frames = mid.memory.frames }) slots rests sents) (bytes_over new.memory slots rests sents) (laws.shown k (record (k.memory) { frames = mid.memory.frames }) n t slots rests sents (laws.settled k g) ends.leaves) (removals.shows x.pid r without_it new slots rests sents removes_left whole);
         kept = keeps_all;
         config = ap (λ (j : Kernel). j.config) removes_left.left;
+        numbers = ap (λ (j : Kernel). j.next) removes_left.left;
         unfailed = refl;
         meters = ap (λ (f : FrameTable). f.meters) removes_left.object.frames ∙ ends.back.loans.meters ∙ ends.back.wires.only.meters;
         landed = ap (λ (f : FrameTable). f.landed) removes_left.object.frames ∙ ends.back.loans.landed ∙ ends.back.wires.only.landed;

@@ -60,6 +60,7 @@ module _ (laws : EndingLaws) (k : Kernel) (frames : FrameTable) (n : ℕ) (t : T
         step = λ slots rests sents. steps (bytes_over k.memory slots rests sents) (bytes_over (record (k.memory) { frames = frames }) slots rests sents) (laws.shown k (record (k.memory) { frames = frames }) n t slots rests sents (laws.settled k g) leaves);
         kept = laws.kept k (record (k.memory) { frames = frames }) n t posted (laws.settled k g) found leaves;
         config = refl;
+        numbers = refl;
         unfailed = unfailed;
         meters = back.loans.meters ∙ back.wires.only.meters;
         landed = back.loans.landed ∙ back.wires.only.landed;

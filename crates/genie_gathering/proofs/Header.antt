@@ -234,6 +234,7 @@ header_receives law k d n v taken moved end before after g accepted there kind b
       good = header_good law k d n v taken end e.ended g accepted there kind between within e.so;
       kept = kept_alone k new g refl refl;
       config = refl;
+      numbers = refl;
       memory = refl;
       taken = taken;
       ended = e.ended;

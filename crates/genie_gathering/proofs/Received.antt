@@ -177,6 +177,13 @@ module _ (laws : GatheringLaws) (k : Kernel) (d h n buffer : ℕ) (v v1 : Device
   same_config IsTruncated bytes None x = refl
   same_config IsTruncated bytes (Some i) x = refl
 
+  same_next : (c : Course) (bytes : List ℕ) (q : Option ℕ) (x : Meets k d q) → (left_kernel c bytes q x).next ≡ k.next
+  same_next GoesOn bytes q x = refl
+  same_next Ends bytes None x = refl
+  same_next Ends bytes (Some i) x = refl
+  same_next IsTruncated bytes None x = refl
+  same_next IsTruncated bytes (Some i) x = refl
+
   same_memory : (c : Course) (bytes : List ℕ) (q : Option ℕ) (x : Meets k d q) → (left_kernel c bytes q x).memory ≡ k.memory
   same_memory GoesOn bytes q x = refl
   same_memory Ends bytes None x = refl
@@ -268,6 +275,7 @@ payload_receives laws k mid new d n h buffer v v1 g held front old middle now r 
       good = subst IsGood (sym is.0) (left_good laws k d h n buffer v v1 g held good there f o m met c bytes o m f.kind (subst (λ (z : Kernel). IsOrderly (outline z)) is.0 orderly));
       kept = subst (Kept k) (sym is.0) (left_kept laws k d h n buffer v v1 g held good there f o m met c bytes o m);
       config = config;
+      numbers = ap (λ (z : Kernel). z.next) is.0 ∙ same_next laws k d h n buffer v v1 g held good there f o m met c bytes o m;
       memory = ap (λ (z : Kernel). z.memory) is.0 ∙ same_memory laws k d h n buffer v v1 g held good there f o m met c bytes o m;
       taken = all;
       ended = over.ended;

@@ -35,6 +35,7 @@ pub record Receives (d n : ℕ) (before after : HostView) (old new : Kernel) (re
   pub good : IsGood new
   pub kept : Kept old new
   pub config : new.config ≡ old.config
+  pub numbers : new.next ≡ old.next
   pub memory : new.memory ≡ old.memory
   pub taken : List ℕ
   -- it took no more because the input had ended

@@ -117,6 +117,9 @@ pub fn recv_outboard<H: Host>(
     ensures kept { Kept kernel.old kernel.new }
     ensures config { kernel.new.config ≡ kernel.old.config }
 
+    // No transfer begins.
+    ensures numbers { kernel.new.next ≡ kernel.old.next }
+
     // No byte of the memory moves, and no frame is lent or given back.
     ensures memory { kernel.new.memory ≡ kernel.old.memory }
 

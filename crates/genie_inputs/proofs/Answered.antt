@@ -1,5 +1,5 @@
 -- An input that is posted, beside others that are pending.
-use Rattle.std.proofs.Common.{◌≡◌, ℕ, true, List, refl, sym, ap, subst, ◌∙◌}
+use Rattle.std.proofs.Common.{◌≡◌, ℕ, ◌+◌, true, List, refl, sym, ap, subst, arith, ◌∙◌}
 use Rattle.std.specs.Prelude.{Option, Some, None, IfSome, IsTrue}
 use Rattle.genie_base.specs.Events.{is_whole}
 use Rattle.genie_base.specs.declared.event.Event.{Event}
@@ -62,13 +62,14 @@ shows_itself k m slots = record {
 }
 
 -- the event is one step, where room was made first without a change of what is told
-pub call_answers : InputLaws → (old k after : Kernel) (from : Memory) (e : Event) (u v w : StoreView) → IsTrue (is_whole e) → refuse (outline k) e ≡ None → IsReady old k u v → ((host : HostView) → view (record k { memory = from }) host w ≡ view k host v) → HasParts after → after.config ≡ k.config → Kept k after → IsSized after.memory w → Steps (outline k) e (outline after) (reply.Id k.next) → StepsAlone (record k { memory = from }) e after (reply.Id k.next)
+pub call_answers : InputLaws → (old k after : Kernel) (from : Memory) (e : Event) (u v w : StoreView) → IsTrue (is_whole e) → refuse (outline k) e ≡ None → IsReady old k u v → ((host : HostView) → view (record k { memory = from }) host w ≡ view k host v) → HasParts after → after.config ≡ k.config → after.next ≡ k.next + 1 → Kept k after → IsSized after.memory w → Steps (outline k) e (outline after) (reply.Id k.next) → StepsAlone (record k { memory = from }) e after (reply.Id k.next)
     → IsAnswered old after u w e (reply.Id k.next)
-call_answers laws old k after from e u v w whole accepted ready told parts config kept sized blind alone = record {
+call_answers laws old k after from e u v w whole accepted ready told parts config next kept sized blind alone = record {
   good = laws.made after parts (laws.orderly (outline k) (outline after) e (reply.Id k.next) whole accepted blind ready.good.orderly);
   sized = sized;
   kept = kept_on old k after (ap (λ (x : Kernel). x.transfers) ready.only) (ap (λ (x : Kernel). x.pools) ready.only) ready.kept kept;
   config = config ∙ ap (λ (x : Kernel). x.config) ready.only;
+  numbers = (let was : k.next ≡ old.next = ap (λ (x : Kernel). x.next) ready.only in omega (arith, next, was));
   step = λ host. subst (λ s. StepsTold s e (view after host w) (reply.Id k.next)) (told host ∙ ready.told host) (laws.alone (record k { memory = from }) after e (reply.Id k.next) host w accepted config alone);
 }
 
@@ -92,7 +93,7 @@ module _ (laws : InputLaws) (k : Kernel) (from m : Memory) (t : Transfer) (e : E
     pub posted_answers : (old : Kernel) (u v w : StoreView) → IsReady old k u v → ((host : HostView) → view (record k { memory = from }) host w ≡ view k host v) → IsSized m w → IsAnswered old after u w e (reply.Id k.next)
     posted_answers old u v w ready told sized =
         let blind = no_bytes k.config.page in
-        call_answers laws old k after from e u v w whole accepted ready told (laws.parts k m t good is_new b) refl (laws.kept k m t good b) sized
+        call_answers laws old k after from e u v w whole accepted ready told (laws.parts k m t good is_new b) refl refl (laws.kept k m t good b) sized
         (steps blind blind refl refl refl (same_needed k blind.seen.kept_bytes))
         (λ slots rests sents. let s = shows slots in steps (bytes_over from slots rests sents) (bytes_over m slots rests sents) s.entries refl refl s.needed)
 
@@ -103,6 +104,7 @@ fails laws old new c addr v w accepted moved = record {
   sized = moved.sized;
   kept = moved.kept;
   config = ap (λ (x : Kernel). x.config) moved.only;
+  numbers = (let same : new.next ≡ old.next = ap (λ (x : Kernel). x.next) moved.only in omega (arith, same));
   step = λ host. subst (λ s. StepsTold (view old host v) (input_event c addr) s reply.StoreFault) (sym (moved.told host))
       (laws.alone old old (input_event c addr) reply.StoreFault host v accepted refl (λ slots rests sents. record { state = refl; reply_is = refl }));
 }

@@ -354,6 +354,7 @@ module _ (laws : InputLaws) (rl : RegionLaws) (settles : GoodIsSettled) (old : K
             sized = lends.sized;
             kept = kept_on old k after refl refl (kept_on old wider k refl refl wider_kept lends.moved.kept) kept;
             config = refl;
+            numbers = omega arith;
             step = λ host.
                 let told : view after host w ≡ option_map (λ s. g (with_zeros s)) (view old host v) =
                 map_same (state_of after) (state_of k) g after_is (bytes_of after host w)
@@ -413,6 +414,7 @@ module _ (laws : InputLaws) (rl : RegionLaws) (settles : GoodIsSettled) (old : K
         sized = record { count = moved.sized.count ∙ sym removes.object.slots; page = moved.sized.page ∙ sym (ap (λ (f : FrameTable). f.page) removes.object.frames) };
         kept = kept_on old k2 k3 refl refl (kept_on old wider k2 refl refl wider_kept moved.kept) (keeps p r k2 k3 removes settled);
         config = refl;
+        numbers = omega arith;
         step = λ host. gone_told (bytes_of old host v) w.slots (rests_of host old.config) (sents_of host old.config) (have_pages w.slots paged) (moved.told host ∙ wider_told host v);
       }
 

@@ -245,7 +245,7 @@ module _ (laws : InputLaws) (rl : RegionLaws) (old md pl : Kernel) (cm : Memory)
     pub hold_core : IsAnswered old held v w (input_event c None) (reply.Id old.next)
     hold_core =
         let blind = no_bytes old.config.page in
-        call_answers laws old k held k.memory (input_event c None) v w w (hold_whole c is) accepted ready (λ host. refl) parts refl kept
+        call_answers laws old k held k.memory (input_event c None) v w w (hold_whole c is) accepted ready (λ host. refl) parts refl refl kept
         (record { count = lends.moved.sized.count ∙ sym (ap length lends.buffer.slots); page = lends.moved.sized.page ∙ sym lends.buffer.fresh.page })
         (step blind blind (keeps_itself k blind) (λ i. refl))
         (λ slots rests sents. step (bytes_over k.memory slots rests sents) (bytes_over (made m o.0 at.pages) slots rests sents)

@@ -223,7 +223,7 @@ module _ (wires : WiresKeep) (laws : InputLaws) (rl : RegionLaws) (old md mv : K
       } in
       let blind = no_bytes old.config.page in
       let kept : Kept k after = (let y = laws.kept k m t good_k begins in record { lent = λ n f a b s. y.lent n f a b (record { was = s.was; is = s.is }); pooled = y.pooled; fresh = λ n f a b s. y.fresh n f a b (record { was = s.was; is = s.is }) }) in
-      call_answers laws old k after m e v lends.middle w (weak_whole c is) accepted (ready_moved old k v lends.middle lends.moved) (same_view k m lends.middle w lends.shows) parts refl kept lends.sized
+      call_answers laws old k after m e v lends.middle w (weak_whole c is) accepted (ready_moved old k v lends.middle lends.moved) (same_view k m lends.middle w lends.shows) parts refl refl kept lends.sized
       (step blind blind refl refl refl refl)
       (λ slots rests sents. step (bytes_over m slots rests sents) (bytes_over m slots rests sents) refl refl refl refl)
 

@@ -1,5 +1,5 @@
 -- A transfer that is posted.
-use Rattle.std.specs.Prelude.{◌≡◌, ℕ, ◌+◌, ◌<◌, [], ◌∷◌, ◌++◌, length, All}
+use Rattle.std.specs.Prelude.{◌≡◌, ℕ, ◌+◌, ◌<◌, ◌≤◌, [], ◌∷◌, ◌++◌, length, All}
 use Rattle.genie_base.specs.declared.event.Event.{Event}
 use Rattle.genie_base.specs.declared.reply.Reply.{Reply}
 use Rattle.genie_demux.specs.declared.input.Input.{Input}
@@ -31,4 +31,5 @@ pub record IsAnswered (old new : Kernel) (v w : StoreView) (e : Event) (reply : 
   pub sized : IsSized new.memory w
   pub kept : Kept old new
   pub config : new.config ≡ old.config
+  pub numbers : new.next ≤ old.next + 1
   pub step : (host : HostView) → StepsTold (view old host v) e (view new host w) reply

@@ -1,5 +1,5 @@
 -- What an output call leaves.
-use Rattle.std.proofs.Common.{◌≡◌, ℕ, Bool, true, false, List, refl, sym, ap, subst, ◌∙◌}
+use Rattle.std.proofs.Common.{◌≡◌, ℕ, ◌+◌, ◌≤◌, Bool, true, false, List, refl, sym, ap, subst, arith, ◌∙◌}
 use Rattle.std.specs.Prelude.{Option, Some, None, IfSome, ⊤}
 use Rattle.std.specs.Option.{option_map}
 use Rattle.genie_base.specs.Events.{mark_of}
@@ -45,6 +45,9 @@ use Rattle.genie_outputs.proofs.Stepping.{state_with, stays, steps_to}
 pub moved_config : (old new : Kernel) (v w : StoreView) → IsMoved old new v w → new.config ≡ old.config
 moved_config old new v w moved = ap (λ (k : Kernel). k.config) moved.only
 
+pub moved_numbers : (old new : Kernel) (v w : StoreView) → IsMoved old new v w → new.next ≤ old.next + 1
+moved_numbers old new v w moved = let same : new.next ≡ old.next = ap (λ (k : Kernel). k.next) moved.only in omega (arith, same)
+
 -- after room was made, what the rest of the call answers is the call's answer
 pub answered_since : OutputLaws → (old mid new : Kernel) (c : Call) (u v w : StoreView) (r : Reply) → IsMoved old mid u v → v.faults ≡ u.faults → IsAnswered mid c new v w r → IsAnswered old c new u w r
 answered_since laws old mid new c u v w r moved same a = record {
@@ -52,6 +55,7 @@ answered_since laws old mid new c u v w r moved same a = record {
   sized = a.sized;
   kept = laws.since old mid new u v moved a.kept;
   config = a.config ∙ moved_config old mid u v moved;
+  numbers = (let was : mid.next ≡ old.next = ap (λ (k : Kernel). k.next) moved.only in let most = a.numbers in omega (arith, most, was));
   step = λ host. subst (λ x. StepsTold x (event_of c) (view new host w) r) (moved.told host) (a.step host);
   cause = subst (λ n. StoreCause (mark_of r) n w.faults) same a.cause;
 }
@@ -67,6 +71,7 @@ failed_answered k new c v w accepted moved cause = record {
   sized = moved.sized;
   kept = moved.kept;
   config = moved_config k new v w moved;
+  numbers = moved_numbers k new v w moved;
   step = λ host. subst (λ x. StepsTold (view k host v) (event_of c) x reply.StoreFault) (sym (moved.told host)) (failed_step k c _ accepted);
   cause = cause;
 }
@@ -112,13 +117,14 @@ module _ (laws : OutputLaws) (k : Kernel) (m : Memory) (c : Call) (r : Region) (
       accepted_step k (over (seen k.memory a) rs ss) (event_of c) (state_of final (over (seen final.memory d) rs ss)) (reply.Id k.next) x.accepted (step a d rs ss shows so)
 
   -- what is left where all that is asked is so
-  pub answered_by : (final : Kernel) (P : (ℕ → List ℕ) → Type 0) → final.config ≡ k.config → IsGood final → Kept k final → IsSized final.memory w → w.faults ≡ v.faults → ((a d rs ss : ℕ → List ℕ) → Shows k c r plan (seen k.memory a) (seen m d) → P d → Steps (state_of k (over (seen k.memory a) rs ss)) (event_of c) (state_of final (over (seen final.memory d) rs ss)) (reply.Id k.next))
+  pub answered_by : (final : Kernel) (P : (ℕ → List ℕ) → Type 0) → final.config ≡ k.config → final.next ≡ k.next + 1 → IsGood final → Kept k final → IsSized final.memory w → w.faults ≡ v.faults → ((a d rs ss : ℕ → List ℕ) → Shows k c r plan (seen k.memory a) (seen m d) → P d → Steps (state_of k (over (seen k.memory a) rs ss)) (event_of c) (state_of final (over (seen final.memory d) rs ss)) (reply.Id k.next))
       → IfSome w.slots P → ((slots : ℕ → List ℕ) → v.slots ≡ Some slots → IsTold k m c r plan w.slots slots) → IsAnswered k c final v w (reply.Id k.next)
-  answered_by final P config good kept sized same step so told = record {
+  answered_by final P config next good kept sized same step so told = record {
     good = good;
     sized = sized;
     kept = kept;
     config = config;
+    numbers = omega (arith, next);
     step = λ host.
         let by = told_by final P step v.slots w.slots (rests_of host k.config) (sents_of host k.config) so told in
         subst (λ z. StepsTold (view k host v) (event_of c) (option_map (state_of final) (bytes_with (seen_with final.memory w) (rests_of host z) (sents_of host z))) (reply.Id k.next)) (sym config) by;
@@ -142,7 +148,7 @@ module _ (laws : OutputLaws) (k : Kernel) (m : Memory) (c : Call) (r : Region) (
       let t : Transfer = transfer_of k c r plan in
       let none = no_bytes k.config.page in
       let good = good_by after (laws.parts k m t x.good (new_output k c r plan) begins) (waits_step app none none outlined refl refl) in
-      answered_by after (λ slots. ⊤) refl good (laws.kept k m t x.good begins) sized same (λ a d rs ss shows so. waits_step app (over (seen k.memory a) rs ss) (over (seen m d) rs ss) shows refl refl) (nothing_asked w.slots) told
+      answered_by after (λ slots. ⊤) refl refl good (laws.kept k m t x.good begins) sized same (λ a d rs ss shows so. waits_step app (over (seen k.memory a) rs ss) (over (seen m d) rs ss) shows refl refl) (nothing_asked w.slots) told
 
   -- a strong call tells so
   pub strong_told : (spoken : ℕ → ℕ → Bool) → HasLent kind.Strong k.next spoken (output_loans plan.loans.items) k.memory m v w → IfSome v.slots (HasPages v) → IsPlanOf k.memory.frames.page range plan.loans.items plan.first plan.len → CanSend m.frames plan.loans.items plan.first plan.len → SendsRange k.memory m v range plan.loans.items plan.first plan.len → (slots : ℕ → List ℕ) → v.slots ≡ Some slots → IsTold k m c r plan w.slots slots

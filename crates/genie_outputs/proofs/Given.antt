@@ -194,4 +194,4 @@ module _ (laws : OutputLaws) (moving : MovingLaws) (k : Kernel) (m : Memory) (c 
       let parts = moving.parts mid c.pid r.id its.regions its.there (laws.parts k m t x.good (new_output k c r plan) shared.begins) in
       let good = good_by laws k m c r range plan v w x final parts (out_step none none (weak_shows k c r plan none.seen weak) refl refl) in
       subst (λ z. IsAnswered k c z v w (reply.Id k.next)) (sym is)
-      (answered_by laws k m c r range plan v w x final (λ slots. ⊤) refl good (kept_out k mid c.pid r (laws.kept k m t x.good shared.begins)) shared.sized same (λ a d rs ss shows so. out_step (over (seen k.memory a) rs ss) (over (seen m d) rs ss) shows refl refl) (nothing_asked w.slots) (weak_told k m c r plan v w weak shared.shows))
+      (answered_by laws k m c r range plan v w x final (λ slots. ⊤) refl refl good (kept_out k mid c.pid r (laws.kept k m t x.good shared.begins)) shared.sized same (λ a d rs ss shows so. out_step (over (seen k.memory a) rs ss) (over (seen m d) rs ss) shows refl refl) (nothing_asked w.slots) (weak_told k m c r plan v w weak shared.shows))

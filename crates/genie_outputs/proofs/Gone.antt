@@ -122,6 +122,7 @@ pub record IsGone (r : Region) (mid final : Kernel) : Type 0 where
   pub settled : IsSettled final
   pub kept : Kept mid final
   pub config : final.config ≡ mid.config
+  pub next : final.next ≡ mid.next
   pub transfers : final.transfers ≡ mid.transfers
   pub pools : final.pools ≡ mid.pools
   pub outlined : state_of final (no_bytes mid.config.page) ≡ tidy (remove (state_of mid (no_bytes mid.config.page)) (region_view (no_bytes mid.config.page).seen.entry_bytes r))
@@ -133,6 +134,7 @@ removed_gone gone p r mid final x s = record {
   settled = gone.settles p r mid final x s;
   kept = gone.keeps p r mid final x s;
   config = ap (λ (z : Kernel). z.config) x.left;
+  next = ap (λ (z : Kernel). z.next) x.left;
   transfers = ap (λ (z : Kernel). z.transfers) x.left;
   pools = ap (λ (z : Kernel). z.pools) x.left;
   outlined = gone.state p r mid final (no_bytes mid.config.page) (no_bytes mid.config.page) x s (gone.outlines r mid);
@@ -145,6 +147,7 @@ hidden_gone gone hiding p r mid final x s = record {
   settled = hiding.settles p r mid final x s;
   kept = hiding.keeps p r mid final x s;
   config = ap (λ (z : Kernel). z.config) x.left;
+  next = ap (λ (z : Kernel). z.next) x.left;
   transfers = ap (λ (z : Kernel). z.transfers) x.left;
   pools = ap (λ (z : Kernel). z.pools) x.left;
   outlined = hiding.state p r mid final (no_bytes mid.config.page) (no_bytes mid.config.page) x s (gone.outlines r mid);
@@ -207,7 +210,7 @@ module _ (laws : OutputLaws) (k : Kernel) (m : Memory) (c : Call) (r : Region) (
       let parts = laws.parts k m t x.good (new_output k c r plan) begins in
       let outline_is : Steps (outline k) (event_of c) (state_of final none) (reply.Id k.next) = steps_tidied k final c r none none x.reached (gone_step none none (state_of final none) outlined refl refl gone.outlined) in
       let step : Steps (outline k) (event_of c) (outline final) (reply.Id k.next) = subst (λ z. Steps (outline k) (event_of c) (state_of final (no_bytes z.page)) (reply.Id k.next)) (sym gone.config) outline_is in
-      answered_by laws k m c r range plan v w x final (HasPages w) gone.config (good_by laws k m c r range plan v w x final (settled_parts final gone.settled) step) (gone_kept (laws.kept k m t x.good begins)) (final_sized parts sized) same
+      answered_by laws k m c r range plan v w x final (HasPages w) gone.config gone.next (good_by laws k m c r range plan v w x final (settled_parts final gone.settled) step) (gone_kept (laws.kept k m t x.good begins)) (final_sized parts sized) same
       (λ a d rs ss shows pages. steps_tidied k final c r (over (seen k.memory a) rs ss) (over (seen final.memory d) rs ss) x.reached (gone_step (over (seen k.memory a) rs ss) (over (seen m d) rs ss) (state_of final (over (seen final.memory d) rs ss)) shows refl refl (gone.state d rs ss (pages_there sized d pages)))) paged told
 
 -- what an output call leaves whose region goes once its frames are lent

@@ -29,6 +29,7 @@ pub record IsAnswered (old : Kernel) (c : Call) (new : Kernel) (v w : StoreView)
   pub sized : IsSized new.memory w
   pub kept : Kept old new
   pub config : new.config ≡ old.config
+  pub numbers : new.next ≤ old.next + 1
   pub step : (host : HostView) → StepsTold (view old host v) (event_of c) (view new host w) reply
   pub cause : StoreCause (mark_of reply) v.faults w.faults
 

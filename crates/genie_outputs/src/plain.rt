@@ -1,5 +1,5 @@
 //! Outputs whose bytes are copied at once.
-ghost use Rattle.std.specs.Prelude.{◌≡◌, ◌<◌, ◌-◌, ◌^◌, None, true};
+ghost use Rattle.std.specs.Prelude.{◌+◌, ◌≤◌, ◌≡◌, ◌<◌, ◌-◌, ◌^◌, None, true};
 ghost use Rattle.genie_base.specs.Events.{mark_of};
 ghost use Rattle.genie_base.specs.Transfers.{class_of};
 ghost use Rattle.genie_base.specs.declared.event.Event.TheVariants as event;
@@ -81,6 +81,9 @@ pub fn out_copied<S: Store>(
     ensures sized { IsSized kernel.new.memory (S.view store.new) }
     ensures kept { Kept kernel.old kernel.new }
     ensures config { kernel.new.config ≡ kernel.old.config }
+
+    // The next number rises by one at most.
+    ensures numbers { kernel.new.next ≤ kernel.old.next + 1 }
     ensures step { (host : HostView) → StepsTold (view kernel.old host (S.view store.old)) (event.Output pid sem dev port flow addr len) (view kernel.new host (S.view store.new)) result }
     ensures cause { StoreCause (mark_of result) (S.view store.old).faults (S.view store.new).faults }
     ensures copying { KeepsToBound kernel.old (event.Output pid sem dev port flow addr len) kernel.new result }

@@ -142,6 +142,13 @@ module _ (laws : ReceiveLaws) (k : Kernel) (good : IsGood k) (d n : ℕ) (v v1 :
   config_of_done count m IsTruncated None = refl
   config_of_done count m IsTruncated (Some (i, t)) = refl
 
+  next_of_done : (count : ℕ) (m : Memory) (course : Course) (met : Option (ℕ × Transfer)) → (done k d b v1 q g count m course met).next ≡ k.next
+  next_of_done count m GoesOn met = refl
+  next_of_done count m Ends None = refl
+  next_of_done count m Ends (Some (i, t)) = refl
+  next_of_done count m IsTruncated None = refl
+  next_of_done count m IsTruncated (Some (i, t)) = refl
+
   kept_done : (count : ℕ) (m : Memory) (new : Kernel) (course : Course) (met : Option (ℕ × Transfer)) → new.memory.frames.owners ≡ k.memory.frames.owners → new ≡ done k d b v1 q g count m course met → Kept k new
   kept_done count m new GoesOn met o e = kept_alone k new good o (ap (λ (z : Kernel). z.transfers) e)
   kept_done count m new Ends None o e = kept_alone k new good o (ap (λ (z : Kernel). z.transfers) e)
@@ -278,6 +285,7 @@ module _ (laws : ReceiveLaws) (k : Kernel) (good : IsGood k) (d n : ℕ) (v v1 :
         good = subst IsGood (sym (new_is ∙ ap (λ (x : Memory). done k d b v1 q g count x course met) memory_is)) good2;
         kept = kept_done count m1 new course met owners new_is;
         config = ap (λ (x : Kernel). x.config) new_is ∙ config_of_done count m1 course met;
+        numbers = ap (λ (x : Kernel). x.next) new_is ∙ next_of_done count m1 course met;
         memory = memory_new ∙ memory_is ∙ (λ i. with_landed k.memory ((sym memory_new) i).frames.bytes ((sym memory_new) i).frames.landed);
         landed = (let l : new.memory.frames.landed ≡ y.frames.landed = ap (λ (x : Memory). x.frames.landed) memory_new in omega (arith, l, landed_low, within));
         taken = header ++ m.taken;

@@ -50,6 +50,7 @@ still_receives k d n host r good plain same = record {
   good = good;
   kept = kept_alone k k good refl refl;
   config = refl;
+  numbers = refl;
   memory = refl;
   landed = omega arith;
   taken = [];

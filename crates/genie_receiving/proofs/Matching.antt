@@ -205,6 +205,7 @@ matching_receives laws k mid new d n number moved_header h old middle now r good
           (stored_now course g count hh.len v1 t (receiver (worked (has_number number) work k.transfers) d) still) orderly);
       kept = kept_worked (has_number number) work k new good only.owners transfers;
       config = ap (λ (y : Kernel). y.config) x.only ∙ ap (λ (y : Kernel). y.config) mid_is;
+      numbers = ap (λ (y : Kernel). y.next) x.only ∙ ap (λ (y : Kernel). y.next) mid_is;
       memory = memory;
       landed = landed_most new.memory.frames.landed k.memory.frames.landed mid.memory.frames.landed (length header) n (ap (λ (y : Memory). y.frames.landed) same_memory) x.lands.most within;
       taken = header ++ m.taken;

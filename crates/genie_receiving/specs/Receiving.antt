@@ -51,6 +51,7 @@ pub record Receives (d n : ℕ) (before after : HostView) (old new : Kernel) (re
   pub good : IsGood new
   pub kept : Kept old new
   pub config : new.config ≡ old.config
+  pub numbers : new.next ≡ old.next
   pub memory : OnlyLanded old.memory new.memory
   pub landed : new.memory.frames.landed ≤ old.memory.frames.landed + n
   pub taken : List ℕ
@@ -72,6 +73,8 @@ pub record IsReceived (d n : ℕ) (before after : HostView) (old new : Kernel) (
   pub good : IsGood new
   pub kept : Kept old new
   pub config : new.config ≡ old.config
+  -- no transfer begins
+  pub numbers : new.next ≡ old.next
   -- where the host and the store tell their bytes, what it stands for and the reply are those of the flat machine's step
   pub step : (store : StoreView) → IsSized old.memory store → HasPages store → StepsTold (view old before store) (Recv d n) (view new after store) reply
   pub sized : (store : StoreView) → IsSized old.memory store → IsSized new.memory store

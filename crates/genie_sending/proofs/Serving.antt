@@ -173,6 +173,9 @@ module _ (laws : WorkLaws) (k : Kernel) (g : IsGood k) (d n : ℕ) (accepted : r
   pub served_config : new.config ≡ k.config
   served_config = ap (λ (z : Kernel). z.config) kernel_is
 
+  pub served_numbers : new.next ≡ k.next
+  served_numbers = ap (λ (z : Kernel). z.next) kernel_is
+
   pub served_memory : new.memory ≡ k.memory
   served_memory = ap (λ (z : Kernel). z.memory) kernel_is
 

@@ -62,6 +62,9 @@ pub fn send<H: Host>(kernel: &mut Kernel, host: &mut H, dev: u32, budget: u32) -
     ensures kept { Kept kernel.old kernel.new }
     ensures config { kernel.new.config ≡ kernel.old.config }
 
+    // No transfer begins.
+    ensures numbers { kernel.new.next ≡ kernel.old.next }
+
     // No byte of the memory moves, and no frame is lent or given back.
     ensures memory { kernel.new.memory ≡ kernel.old.memory }
 

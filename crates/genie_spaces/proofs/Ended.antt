@@ -188,6 +188,9 @@ module _ (laws : RegionLaws) (fit : GoodRegionsFit) (old mid : Kernel) (p child 
       pub config_done : new.config ≡ old.config
       config_done = ap (λ (n : Kernel). n.config) is_new ∙ ap (λ (n : Kernel). n.config) b.clears.only
 
+      pub numbers_done : new.next ≡ old.next
+      numbers_done = ap (λ (n : Kernel). n.next) is_new ∙ ap (λ (n : Kernel). n.next) b.clears.only
+
       pub told_done : (host : HostView) → StepsTold (view old host v) (Fork p child) (view new host w) reply.Okay
       told_done host = subst (λ (n : Kernel). StepsTold (view old host v) (Fork p child) (view n host w) reply.Okay) (sym is_new) (told_there laws old k p child rs cs os start b.clears may refusal b.made after.memory v w one.entries one.each after.clock host)
 
@@ -266,6 +269,9 @@ module _ (laws : RegionLaws) (fit : GoodRegionsFit) (old mid : Kernel) (p child 
 
         pub config_failed : after.config ≡ old.config
         config_failed = ap (λ (n : Kernel). n.config) is_after ∙ ap (λ (n : Kernel). n.config) b.clears.only
+
+        pub numbers_failed : after.next ≡ old.next
+        numbers_failed = ap (λ (n : Kernel). n.next) is_after ∙ ap (λ (n : Kernel). n.next) b.clears.only
 
         pub told_failed : LentFramesSuffice → (host : HostView) → StepsTold (view old host v) (Fork p child) (view (record after { memory = dropped }) host w) reply.StoreFault
         told_failed law host = subst (λ (n : Kernel). StepsTold (view old host v) (Fork p child) (view n host w) reply.StoreFault) (sym is_left) (told_back laws old k p child rs cs os start b.clears may refusal b.made after.memory v w failed dropped d law after.clock host)

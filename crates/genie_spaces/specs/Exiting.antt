@@ -50,6 +50,7 @@ pub record Exits (p : ℕ) (old new : Kernel) : Type 0 where
   pub settled : IsSettled new
   pub alive : is_alive p old.spaces ≡ true → is_alive p new.spaces ≡ true
   pub config : new.config ≡ old.config
+  pub numbers : new.next ≡ old.next
   pub pools : new.pools ≡ old.pools
   pub hidden : new.hidden ≡ old.hidden
   pub meters : new.memory.frames.meters ≡ old.memory.frames.meters

@@ -172,6 +172,7 @@ pub fn exit(kernel: &mut Kernel, pid: u32) -> Reply<'static>
     requires accepted { refuse (outline kernel.old) (event.Exit pid) ≡ None }
     ensures served { IsServedPaged kernel.old (event.Exit pid) kernel.new result }
     ensures hidden { kernel.new.hidden ≡ others pid kernel.old.hidden }
+    ensures numbers { kernel.new.next ≡ kernel.old.next }
 {
     exit_laws();
     kernel.hidden.discard(&mut kernel.memory, pid);

@@ -112,6 +112,7 @@ pub fn fork<S: Store>(kernel: &mut Kernel, store: &mut S, pid: u32, child: u32) 
     ensures sized { IsSized kernel.new.memory (S.view store.new) }
     ensures kept { Kept kernel.old kernel.new }
     ensures config { kernel.new.config ≡ kernel.old.config }
+    ensures numbers { kernel.new.next ≡ kernel.old.next }
     ensures step { (host : HostView) → StepsTold (view kernel.old host (S.view store.old)) (event.Fork pid child) (view kernel.new host (S.view store.new)) result }
     ensures cause { StoreCause (mark_of result) (S.view store.old).faults (S.view store.new).faults }
 

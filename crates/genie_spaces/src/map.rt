@@ -18,7 +18,8 @@ use genie_room::laws::objects_suffice;
 pub fn map(kernel: &mut Kernel, pid: u32, page: u32, pages: u32) -> Reply<'static>
     requires good { IsGood kernel.old }
     requires accepted { refuse (outline kernel.old) (event.Map pid page pages) ≡ None }
-    ensures { IsServed kernel.old (event.Map pid page pages) kernel.new result }
+    ensures served { IsServed kernel.old (event.Map pid page pages) kernel.new result }
+    ensures numbers { kernel.new.next ≡ kernel.old.next }
 {
     region_laws();
     objects_suffice();
@@ -33,7 +34,8 @@ pub fn map(kernel: &mut Kernel, pid: u32, page: u32, pages: u32) -> Reply<'stati
 pub fn alloc(kernel: &mut Kernel, pid: u32, pages: u32) -> Reply<'static>
     requires good { IsGood kernel.old }
     requires accepted { refuse (outline kernel.old) (event.Alloc pid pages) ≡ None }
-    ensures { IsServed kernel.old (event.Alloc pid pages) kernel.new result }
+    ensures served { IsServed kernel.old (event.Alloc pid pages) kernel.new result }
+    ensures numbers { kernel.new.next ≡ kernel.old.next }
 {
     region_laws();
     objects_suffice();

@@ -53,7 +53,8 @@ fn set_mode(kernel: &mut Kernel, pid: u32, region: Region, writable: bool)
 pub fn protect(kernel: &mut Kernel, pid: u32, page: u32, writable: bool) -> Reply<'static>
     requires good { IsGood kernel.old }
     requires accepted { refuse (outline kernel.old) (event.Protect pid page writable) ≡ None }
-    ensures { IsServed kernel.old (event.Protect pid page writable) kernel.new result }
+    ensures served { IsServed kernel.old (event.Protect pid page writable) kernel.new result }
+    ensures numbers { kernel.new.next ≡ kernel.old.next }
 {
     region_laws();
     match kernel.spaces.regions(pid).starting_at(page) {

@@ -27,7 +27,8 @@ fn add_process(kernel: &mut Kernel, pid: u32)
 pub fn spawn(kernel: &mut Kernel, pid: u32) -> Reply<'static>
     requires good { IsGood kernel.old }
     requires accepted { refuse (outline kernel.old) (event.Spawn pid) ≡ None }
-    ensures { IsServed kernel.old (event.Spawn pid) kernel.new result }
+    ensures served { IsServed kernel.old (event.Spawn pid) kernel.new result }
+    ensures numbers { kernel.new.next ≡ kernel.old.next }
 {
     accepted_events_step();
     add_process(kernel, pid);

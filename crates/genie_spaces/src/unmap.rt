@@ -17,7 +17,8 @@ use genie_kernel::Kernel;
 pub fn unmap(kernel: &mut Kernel, pid: u32, page: u32) -> Reply<'static>
     requires good { IsGood kernel.old }
     requires accepted { refuse (outline kernel.old) (event.Unmap pid page) ≡ None }
-    ensures { IsServedPaged kernel.old (event.Unmap pid page) kernel.new result }
+    ensures served { IsServedPaged kernel.old (event.Unmap pid page) kernel.new result }
+    ensures numbers { kernel.new.next ≡ kernel.old.next }
 {
     removal_laws();
     match kernel.spaces.regions(pid).starting_at(page) {

@@ -305,6 +305,7 @@ gathered_receives law k d n v taken moved end before after g accepted there betw
       good = gathered_good law k d n v taken end e.ended g accepted there between free skip within e.so;
       kept = kept_alone k new g refl refl;
       config = refl;
+      numbers = refl;
       memory = refl;
       landed = omega arith;
       taken = taken;

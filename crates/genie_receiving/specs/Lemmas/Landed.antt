@@ -225,6 +225,7 @@ within_receives laws k new d n len t old now r good accepted at receives law x =
           (stored_now course g count g.header.len v t (receiver (worked (has_number number) work k.transfers) d) still) orderly);
       kept = kept_worked (has_number number) work k new good x.lands.only.owners transfers;
       config = ap (λ (y : Kernel). y.config) x.only;
+      numbers = ap (λ (y : Kernel). y.next) x.only;
       memory = memory;
       landed = x.lands.most;
       taken = m.taken;

@@ -183,6 +183,7 @@ is_received d n before after old new r good accepted handles input h = record {
   good = h.good;
   kept = h.kept;
   config = h.config;
+  numbers = h.numbers;
   step = λ store sized pages. received_told d n before after store old new r good accepted (input_alone old.config before d (input_of old.config d) handles input) h sized pages;
   sized = λ store sized. record { count = sized.count ∙ sym (ap (λ (m : Memory). length m.slots) h.memory); page = sized.page ∙ sym (ap (λ (m : Memory). m.frames.page) h.memory) };
   cause = h.cause;

@@ -1,4 +1,5 @@
-use Rattle.std.proofs.Common.{subst, List, ℕ}
+use Rattle.std.proofs.Common.{ap, subst, List, ℕ}
+use Rattle.genie_kernel.specs.declared.kernel.Kernel.{Kernel}
 use Rattle.genie_access.specs.Storing.{WritesAt}
 use Rattle.genie_access.proofs.Alike.{good_moved, kept_moved}
 use Rattle.genie_access.proofs.Wrote.{wrote_good, wrote_kept, wrote_told, write_failed}
@@ -21,3 +22,9 @@ returns-in-Ok-clause-step g c = λ host. wrote_told c.args.kernel.now c.write_fr
 
 pub returns-in-Err-clause-step : goal.returns-in-Err-clause-step
 returns-in-Err-clause-step g c = λ host. write_failed c.args.kernel.now c.write_from.new.kernel host (g.S.Store.view c.args.store.now) (g.S.Store.view c.write_from.new.store) c.args.pid c.args.addr c.args.bytes.now c.requires.good c.write_from.ensures.only c.in-Err.ensures.failed c.requires.accepted
+
+pub returns-in-Ok-clause-numbers : goal.returns-in-Ok-clause-numbers
+returns-in-Ok-clause-numbers g c = ap (λ (k : Kernel). k.next) c.write_from.ensures.only
+
+pub returns-in-Err-clause-numbers : goal.returns-in-Err-clause-numbers
+returns-in-Err-clause-numbers g c = ap (λ (k : Kernel). k.next) c.write_from.ensures.only

@@ -1,6 +1,6 @@
 use Rattle.std.proofs.Common.{arith, ◌^◌}
 use Rattle.genie_outputs.proofs.Rows.{failed_keeps, out_keeps}
-use Rattle.genie_outputs.proofs.Answered.{answered_since, failed_answered, moved_config}
+use Rattle.genie_outputs.proofs.Answered.{answered_since, failed_answered, moved_config, moved_numbers}
 use Rattle.genie_kernel.specs.Lemmas.Rising.{rises_most, rises_twice}
 use Rattle.genie_outputs.proofs.weak_moving.out_moved_out.Goals as goal
 
@@ -9,6 +9,9 @@ returns-in-Ok-clause-kept g c = (answered_since c.output_laws.ensures c.args.ker
 
 pub returns-in-Ok-clause-config : goal.returns-in-Ok-clause-config
 returns-in-Ok-clause-config g c = (answered_since c.output_laws.ensures c.args.kernel.now c.make_ready.new.kernel c.begin_moved_out.new.kernel _ (g.S.Store.view c.args.store.now) (g.S.Store.view c.make_ready.new.store) (g.S.Store.view c.begin_moved_out.new.store) c.begin_moved_out.result c.make_ready.ensures.moved c.in-Ok.ensures.cause.kept c.begin_moved_out.ensures.answered).config
+
+pub returns-in-Ok-clause-numbers : goal.returns-in-Ok-clause-numbers
+returns-in-Ok-clause-numbers g c = (answered_since c.output_laws.ensures c.args.kernel.now c.make_ready.new.kernel c.begin_moved_out.new.kernel _ (g.S.Store.view c.args.store.now) (g.S.Store.view c.make_ready.new.store) (g.S.Store.view c.begin_moved_out.new.store) c.begin_moved_out.result c.make_ready.ensures.moved c.in-Ok.ensures.cause.kept c.begin_moved_out.ensures.answered).numbers
 
 pub returns-in-Ok-clause-step : goal.returns-in-Ok-clause-step
 returns-in-Ok-clause-step g c = (answered_since c.output_laws.ensures c.args.kernel.now c.make_ready.new.kernel c.begin_moved_out.new.kernel _ (g.S.Store.view c.args.store.now) (g.S.Store.view c.make_ready.new.store) (g.S.Store.view c.begin_moved_out.new.store) c.begin_moved_out.result c.make_ready.ensures.moved c.in-Ok.ensures.cause.kept c.begin_moved_out.ensures.answered).step
@@ -24,6 +27,9 @@ returns-in-Err-clause-copying g c = failed_keeps c.args.kernel.now c.make_ready.
 
 pub returns-in-Err-clause-config : goal.returns-in-Err-clause-config
 returns-in-Err-clause-config g c = moved_config c.args.kernel.now c.make_ready.new.kernel (g.S.Store.view c.args.store.now) (g.S.Store.view c.make_ready.new.store) c.make_ready.ensures.moved
+
+pub returns-in-Err-clause-numbers : goal.returns-in-Err-clause-numbers
+returns-in-Err-clause-numbers g c = moved_numbers c.args.kernel.now c.make_ready.new.kernel (g.S.Store.view c.args.store.now) (g.S.Store.view c.make_ready.new.store) c.make_ready.ensures.moved
 
 pub returns-in-Ok-clause-rises : goal.returns-in-Ok-clause-rises
 returns-in-Ok-clause-rises g c = rises_twice (2 ^ 13) (2 ^ 33) (2 ^ 36) c.args.kernel.now.memory.frames c.make_ready.new.kernel.memory.frames c.begin_moved_out.new.kernel.memory.frames (omega arith) c.make_ready.ensures.rises c.begin_moved_out.ensures.rises

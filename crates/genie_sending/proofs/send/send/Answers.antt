@@ -1,4 +1,4 @@
-use Rattle.genie_sending.proofs.Serving.{idle_told, nothing_kept, served_cause, served_config, served_good, served_handles, served_kept, served_memory, served_only, served_step}
+use Rattle.genie_sending.proofs.Serving.{idle_told, nothing_kept, served_cause, served_config, served_good, served_handles, served_kept, served_memory, served_numbers, served_only, served_step}
 use Rattle.genie_sending.proofs.send.send.Goals as goal
 
 pub returns-in-Some-clause-good : goal.returns-in-Some-clause-good
@@ -9,6 +9,9 @@ returns-in-Some-clause-kept g c = served_kept c.work_laws.ensures c.args.kernel.
 
 pub returns-in-Some-clause-config : goal.returns-in-Some-clause-config
 returns-in-Some-clause-config g c = served_config c.work_laws.ensures c.args.kernel.now c.requires.good c.args.dev c.args.budget c.requires.accepted (g.H.Host.view c.args.host.now) (g.H.Host.view c.send_next.new.host) c.requires.handles c.send_next.new.kernel c.send_next.result c.send_next.ensures
+
+pub returns-in-Some-clause-numbers : goal.returns-in-Some-clause-numbers
+returns-in-Some-clause-numbers g c = served_numbers c.work_laws.ensures c.args.kernel.now c.requires.good c.args.dev c.args.budget c.requires.accepted (g.H.Host.view c.args.host.now) (g.H.Host.view c.send_next.new.host) c.requires.handles c.send_next.new.kernel c.send_next.result c.send_next.ensures
 
 pub returns-in-Some-clause-memory : goal.returns-in-Some-clause-memory
 returns-in-Some-clause-memory g c = served_memory c.work_laws.ensures c.args.kernel.now c.requires.good c.args.dev c.args.budget c.requires.accepted (g.H.Host.view c.args.host.now) (g.H.Host.view c.send_next.new.host) c.requires.handles c.send_next.new.kernel c.send_next.result c.send_next.ensures

@@ -1,4 +1,4 @@
-use Rattle.genie_spaces.proofs.Ended.{child_new, child_number, config_done, config_failed, drop_differ, drop_sound, drop_there, good_done, good_failed, kept_done, kept_failed, landed_done, landed_failed, meters_done, meters_failed, meters_mid, ready, shared_done, sized_done, sized_failed, sized_mid, tables_size, told_done, told_failed}
+use Rattle.genie_spaces.proofs.Ended.{child_new, child_number, config_done, config_failed, drop_differ, drop_sound, drop_there, good_done, good_failed, kept_done, kept_failed, landed_done, landed_failed, meters_done, meters_failed, meters_mid, numbers_done, numbers_failed, ready, shared_done, sized_done, sized_failed, sized_mid, tables_size, told_done, told_failed}
 use Rattle.genie_spaces.proofs.Rising.{rises_forked}
 use Rattle.genie_spaces.proofs.fork.fork.Goals as goal
 
@@ -41,6 +41,9 @@ returns-in-Ok-clause-kept g c = kept_done c.region_laws.ensures c.regions_fit.en
 pub returns-in-Ok-clause-config : goal.returns-in-Ok-clause-config
 returns-in-Ok-clause-config g c = config_done c.region_laws.ensures c.regions_fit.ensures.regions c.args.kernel.now c.begin-copies.new.kernel c.args.pid c.args.child c.begin-copies.result c.requires.good c.requires.accepted c.begin-copies.ensures c.copy_pages.new.kernel c.copy_pages.ensures.only (g.S.Store.view c.args.store.now) (g.S.Store.view c.copy_pages.new.store) c.in-Ok.ensures.copied c.add_child.new.kernel c.add_child.ensures
 
+pub returns-in-Ok-clause-numbers : goal.returns-in-Ok-clause-numbers
+returns-in-Ok-clause-numbers g c = numbers_done c.region_laws.ensures c.regions_fit.ensures.regions c.args.kernel.now c.begin-copies.new.kernel c.args.pid c.args.child c.begin-copies.result c.requires.good c.requires.accepted c.begin-copies.ensures c.copy_pages.new.kernel c.copy_pages.ensures.only (g.S.Store.view c.args.store.now) (g.S.Store.view c.copy_pages.new.store) c.in-Ok.ensures.copied c.add_child.new.kernel c.add_child.ensures
+
 pub returns-in-Ok-clause-step : goal.returns-in-Ok-clause-step
 returns-in-Ok-clause-step g c = told_done c.region_laws.ensures c.regions_fit.ensures.regions c.args.kernel.now c.begin-copies.new.kernel c.args.pid c.args.child c.begin-copies.result c.requires.good c.requires.accepted c.begin-copies.ensures c.copy_pages.new.kernel c.copy_pages.ensures.only (g.S.Store.view c.args.store.now) (g.S.Store.view c.copy_pages.new.store) c.in-Ok.ensures.copied c.add_child.new.kernel c.add_child.ensures
 
@@ -58,6 +61,9 @@ returns-in-Err-clause-kept g c = kept_failed c.region_laws.ensures c.regions_fit
 
 pub returns-in-Err-clause-config : goal.returns-in-Err-clause-config
 returns-in-Err-clause-config g c = config_failed c.region_laws.ensures c.regions_fit.ensures.regions c.args.kernel.now c.begin-copies.new.kernel c.args.pid c.args.child c.begin-copies.result c.requires.good c.requires.accepted c.begin-copies.ensures c.copy_pages.new.kernel c.copy_pages.ensures.only (g.S.Store.view c.args.store.now) (g.S.Store.view c.copy_pages.new.store) c.in-Err.ensures.failed c.drop_objects.new.memory c.drop_objects.ensures
+
+pub returns-in-Err-clause-numbers : goal.returns-in-Err-clause-numbers
+returns-in-Err-clause-numbers g c = numbers_failed c.region_laws.ensures c.regions_fit.ensures.regions c.args.kernel.now c.begin-copies.new.kernel c.args.pid c.args.child c.begin-copies.result c.requires.good c.requires.accepted c.begin-copies.ensures c.copy_pages.new.kernel c.copy_pages.ensures.only (g.S.Store.view c.args.store.now) (g.S.Store.view c.copy_pages.new.store) c.in-Err.ensures.failed c.drop_objects.new.memory c.drop_objects.ensures
 
 pub returns-in-Err-clause-step : goal.returns-in-Err-clause-step
 returns-in-Err-clause-step g c = told_failed c.region_laws.ensures c.regions_fit.ensures.regions c.args.kernel.now c.begin-copies.new.kernel c.args.pid c.args.child c.begin-copies.result c.requires.good c.requires.accepted c.begin-copies.ensures c.copy_pages.new.kernel c.copy_pages.ensures.only (g.S.Store.view c.args.store.now) (g.S.Store.view c.copy_pages.new.store) c.in-Err.ensures.failed c.drop_objects.new.memory c.drop_objects.ensures c.states_are_alike.ensures.lent

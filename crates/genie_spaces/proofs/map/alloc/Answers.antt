@@ -6,6 +6,7 @@ use Rattle.genie_base.specs.declared.event.Event.TheVariants.{Alloc}
 use Rattle.genie_base.specs.declared.region.Area.TheVariants.{Sys}
 use Rattle.genie_base.specs.declared.reply.Reply.TheVariants as reply
 use Rattle.genie_region.specs.Layouts.{extent}
+use Rattle.genie_kernel.specs.declared.kernel.Kernel.{Kernel}
 use Rattle.genie_spaces.specs.Serving.{IsServed}
 use Rattle.genie_spaces.proofs.Adding.{adds_served}
 use Rattle.genie_spaces.proofs.Mapping.{may_alloc, may_in, alloc_new, alloc_alive, alloc_place, alloc_fits, new_region, object_room}
@@ -47,10 +48,13 @@ overflow_mul-result c = let low = alloc_fits c.args.kernel.now c.args.pid c.args
 pub unreachable-requires : goal.unreachable-requires
 unreachable-requires c = alloc_place c.args.kernel.now c.args.pid c.args.pages c.requires.accepted (sym (ap (place extent c.args.pages) c.regions.ensures) ∙ sym c.place.ensures ∙ c.in-None.is)
 
-pub returns : goal.returns
-returns c =
+pub returns-clause-served : goal.returns-clause-served
+returns-clause-served c =
     let page : c.get-page.result ≡ c.args.kernel.now.config.page = c.get-page.ensures.number ∙ c.page.ensures ∙ c.requires.good.spaced.page in
     subst (λ a. IsServed c.args.kernel.now (Alloc c.args.pid c.args.pages) c.add_region-object.new.kernel (reply.At (c.in-Some.start * a))) (sym page)
     (adds_served c.region_laws.ensures c.args.kernel.now c.make_room.new.kernel c.add_region-object.new.kernel c.args.pid (Alloc c.args.pid c.args.pages) (reply.At (c.in-Some.start * c.args.kernel.now.config.page)) (new_region (record { 0 = c.fresh_number.result }) Sys c.in-Some.start c.args.pages c.add_region-object.result) c.requires.good
     (alloc_new c.args.kernel.now c.args.pid c.args.pages c.in-Some.start (record { 0 = c.fresh_number.result }) c.add_region-object.result c.requires.good c.requires.accepted c.fresh_number.ensures (sym (ap (place extent c.args.pages) c.regions.ensures) ∙ sym c.place.ensures ∙ c.in-Some.is))
     c.make_room.ensures.clears c.make_room.ensures.room c.add_region-object.ensures)
+
+pub returns-clause-numbers : goal.returns-clause-numbers
+returns-clause-numbers c = ap (λ (k : Kernel). k.next) c.add_region-object.ensures.added ∙ ap (λ (k : Kernel). k.next) c.make_room.ensures.clears.only

@@ -1,7 +1,8 @@
-use Rattle.std.proofs.Common.{refl}
+use Rattle.std.proofs.Common.{refl, ap, ◌∙◌}
 use Rattle.genie_base.specs.declared.event.Event.TheVariants.{Map}
 use Rattle.genie_base.specs.declared.region.Area.TheVariants.{App}
 use Rattle.genie_base.specs.declared.reply.Reply.TheVariants as reply
+use Rattle.genie_kernel.specs.declared.kernel.Kernel.{Kernel}
 use Rattle.genie_spaces.proofs.Adding.{adds_served}
 use Rattle.genie_spaces.proofs.Mapping.{may_map, may_in, map_new, new_region, object_room}
 use Rattle.genie_spaces.proofs.map.map.Goals as goal
@@ -37,7 +38,10 @@ add_region-object-requires-clause-new c =
     let h = (may_in c.args.kernel.now c.make_room.new.kernel c.args.pid c.args.page c.args.pages (record { 0 = c.fresh_number.result }) c.make_room.ensures.clears (may_map c.args.kernel.now c.args.pid c.args.page c.args.pages (record { 0 = c.fresh_number.result }) c.requires.good c.requires.accepted c.fresh_number.ensures)).new in
     rw h refl
 
-pub returns : goal.returns
-returns c = adds_served c.region_laws.ensures c.args.kernel.now c.make_room.new.kernel c.add_region-object.new.kernel c.args.pid (Map c.args.pid c.args.page c.args.pages) reply.Okay (new_region (record { 0 = c.fresh_number.result }) App c.args.page c.args.pages c.add_region-object.result) c.requires.good
+pub returns-clause-served : goal.returns-clause-served
+returns-clause-served c = adds_served c.region_laws.ensures c.args.kernel.now c.make_room.new.kernel c.add_region-object.new.kernel c.args.pid (Map c.args.pid c.args.page c.args.pages) reply.Okay (new_region (record { 0 = c.fresh_number.result }) App c.args.page c.args.pages c.add_region-object.result) c.requires.good
     (map_new c.args.kernel.now c.args.pid c.args.page c.args.pages (record { 0 = c.fresh_number.result }) c.add_region-object.result c.requires.good c.requires.accepted c.fresh_number.ensures)
     c.make_room.ensures.clears c.make_room.ensures.room c.add_region-object.ensures
+
+pub returns-clause-numbers : goal.returns-clause-numbers
+returns-clause-numbers c = ap (λ (k : Kernel). k.next) c.add_region-object.ensures.added ∙ ap (λ (k : Kernel). k.next) c.make_room.ensures.clears.only
