@@ -1,5 +1,5 @@
 -- What an event leaves of the kernel, the host and the store, and what it may answer.
-use Rattle.std.specs.Prelude.{◌≡◌, ℕ, ◌^◌, Bool, true, false}
+use Rattle.std.specs.Prelude.{◌≡◌, ℕ, ◌+◌, ◌^◌, ◌≤◌, Bool, true, false}
 use Rattle.genie_base.specs.Events.{mark_of}
 use Rattle.genie_base.specs.declared.config.Config.{Config}
 use Rattle.genie_base.specs.declared.event.Event.{Event}
@@ -62,13 +62,14 @@ Touches TheStore mark old new v w = TouchesStore mark old new v w
 Touches (TheHandle h) mark old new v w = TouchesHandle h mark old new v w
 
 -- the kernel is good over a store of its size, and keeps what is lent and its configuration; what it stands for and the
--- reply are those of the flat machine's step; a failure has its cause, and the handles stay open; the meters rise by so much
--- at most
+-- reply are those of the flat machine's step; a failure has its cause, and the handles stay open; one number at most is given
+-- out, and the meters rise by so much at most
 pub record Served (old new : Kernel) (e : Event) (before after : HostView) (v w : StoreView) (reply : Reply) : Type 0 where
   pub good : IsGood new
   pub sized : IsSized new.memory w
   pub kept : Kept old new
   pub config : new.config ≡ old.config
+  pub numbers : new.next ≤ old.next + 1
   pub step : StepsTold (view old before v) e (view new after w) reply
   pub touches : Touches (touched_by old.config e) (mark_of reply) before after v w
   pub handles : HasHandles new.config after

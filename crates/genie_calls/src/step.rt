@@ -1,5 +1,5 @@
 //! One event.
-ghost use Rattle.std.specs.Prelude.{◌≡◌, ◌-◌, ◌^◌, ◌<◌, None, IsTrue};
+ghost use Rattle.std.specs.Prelude.{◌≡◌, ◌+◌, ◌-◌, ◌^◌, ◌<◌, ◌≤◌, None, IsTrue};
 ghost use Rattle.genie_base.specs.Events.{is_whole, mark_of};
 ghost use Rattle.genie_object.specs.Costs.{AreBelow};
 ghost use Rattle.genie_object.specs.Sound.{IsSized};
@@ -132,6 +132,9 @@ pub fn step<'a, H: Host, S: Store>(
     // No frame is freed or gets another owner while a device holds it.
     ensures kept { Kept kernel.old kernel.new }
     ensures config { kernel.new.config ≡ kernel.old.config }
+
+    // An event gives out one number of a transfer at most.
+    ensures numbers { kernel.new.next ≤ kernel.old.next + 1 }
     ensures step { StepsTold (view kernel.old (H.view host.old) (S.view store.old)) event.now (view kernel.new (H.view host.new) (S.view store.new)) result }
 
     // A failure is shown only where the count of faults of the store, or of the device's handle, rose in this step.
