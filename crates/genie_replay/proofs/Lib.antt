@@ -1,7 +1,6 @@
 pub mod Boots
 pub mod Exits
 pub mod Gathering
-pub mod Making
 pub mod Opening
 pub mod Reading
 pub mod Running

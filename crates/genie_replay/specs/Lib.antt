@@ -1,15 +1,12 @@
 pub mod Booted
 pub mod Booting
 pub mod Files
-pub mod Forms
 pub mod Inputs
 pub mod Lemmas
 pub mod Lines
-pub mod Makes
 pub mod Outcome
 pub mod Places
 pub mod Plays
 pub mod Serving
 pub mod Statuses
-pub mod Summaries
 pub mod Write

@@ -1,9 +1,9 @@
 //! Whole runs over a host in memory.
 ghost use Rattle.std.specs.Prelude.{◌≡◌, [], IfOk, OnOk};
 
-use crate::{Status, run};
+use crate::{Status, replay};
 use genie_base::NoMemory;
-use genie_host::{Host, MemoryHost};
+use genie_host::MemoryHost;
 use std::alloc::Global;
 use std::test::Fail;
 
@@ -39,16 +39,6 @@ fn host_with(alloc: Global, script: &[u8], trouble: Trouble) -> Result<MemoryHos
     Ok(host)
 }
 
-fn run_words<H: Host>(alloc: Global, host: &mut H, words: &[&str]) -> Result<Status, NoMemory>
-    requires { (H.view host.old).opened ≡ 0 }
-{
-    let mut list = Vec::new(alloc);
-    for word in words {
-        list.push(String::from_str(alloc, word)?)?;
-    }
-    Ok(run(alloc, list.as_slice(), host))
-}
-
 fn is_written(host: &MemoryHost, name: &[u8], want: &[u8]) -> bool {
     match host.written(name) {
         Some(bytes) => bytes == want,
@@ -64,16 +54,10 @@ struct Ends {
     sent: [&'static [u8]; 2],
 }
 
-// Whether the words run so over a host with this script.
-fn runs_so(
-    alloc: Global,
-    words: &[&str],
-    script: &[u8],
-    trouble: Trouble,
-    ends: &Ends,
-) -> Result<bool, NoMemory> {
+// Whether the script runs so over a host.
+fn runs_so(alloc: Global, script: &[u8], trouble: Trouble, ends: &Ends) -> Result<bool, NoMemory> {
     let mut host = host_with(alloc, script, trouble)?;
-    let status = run_words(alloc, &mut host, words)?;
+    let status = replay(alloc, &mut host, b"s");
     Ok(
         status == ends.status
             && is_written(&host, b"", ends.replies)
@@ -81,8 +65,6 @@ fn runs_so(
             && is_written(&host, b"o1", ends.sent[1]),
     )
 }
-
-const REPLAY: &[&str] = &["replay", "s"];
 
 // Without a byte sent.
 fn quiet(status: Status, replies: &'static [u8]) -> Ends {
@@ -122,7 +104,7 @@ fn scripts_of_one_and_two_devices(rt: HostRuntime) -> Result<(), Fail> {
         ],
     };
     for (script, ends) in [(FIRST, first), (READS, reads), (TWO, two)] {
-        assert!(rt; runs_so(rt.alloc(), REPLAY, script, Trouble::Nothing, &ends)?);
+        assert!(rt; runs_so(rt.alloc(), script, Trouble::Nothing, &ends)?);
     }
     Ok(())
 }
@@ -170,7 +152,7 @@ const ENDINGS: &[(&[u8], Status, &[u8])] = &[
 fn scripts_that_end_early(rt: HostRuntime) -> Result<(), Fail> {
     for (script, status, replies) in ENDINGS {
         let ends = quiet(*status, *replies);
-        assert!(rt; runs_so(rt.alloc(), REPLAY, script, Trouble::Nothing, &ends)?);
+        assert!(rt; runs_so(rt.alloc(), script, Trouble::Nothing, &ends)?);
     }
     Ok(())
 }
@@ -190,40 +172,8 @@ fn lines_at_the_longest(rt: HostRuntime) -> Result<(), Fail> {
     for (count, status) in [(8300, Status::Done), (8301, Status::TooLong)] {
         let script = with_comment(rt.alloc(), count)?;
         let ends = quiet(status, b"ok\n");
-        assert!(rt;
-            runs_so(
-                rt.alloc(),
-                REPLAY,
-                script.as_slice(),
-                Trouble::Nothing,
-                &ends
-            )?
-        );
+        assert!(rt; runs_so(rt.alloc(), script.as_slice(), Trouble::Nothing, &ends)?);
     }
-    Ok(())
-}
-
-#[test]
-fn words_that_are_no_command(rt: HostRuntime) -> Result<(), Fail> {
-    let none: &[&str] = &[];
-    let ends = quiet(Status::Usage, b"");
-    for words in [none, &["replay", "-s"], &["make", "1", "0"], &["cost", "s"]] {
-        assert!(rt; runs_so(rt.alloc(), words, FIRST, Trouble::Nothing, &ends)?);
-    }
-    Ok(())
-}
-
-// The replies of this run were derived by hand from the script, and the digest is that of their text.
-const SUMMARY: &[u8] =
-    b"events 30\nerr 0\nfaults 0\nsent 119\ngot 99\nsha256 4d312fb3dd523634b74c3a2577dcea3bf6146b287a63bc2da2dd5d3b635eeeb6\n";
-
-#[test]
-fn a_made_run_is_summed_up(rt: HostRuntime) -> Result<(), Fail> {
-    let make: &[&str] = &["make", "1", "1"];
-    let done = quiet(Status::Done, SUMMARY);
-    assert!(rt; runs_so(rt.alloc(), make, FIRST, Trouble::Nothing, &done)?);
-    let cut = quiet(Status::HostFault, &SUMMARY[..50]);
-    assert!(rt; runs_so(rt.alloc(), make, FIRST, Trouble::FailAt(b"", 50), &cut)?);
     Ok(())
 }
 
@@ -244,7 +194,7 @@ const TROUBLES: &[(Trouble, &[u8])] = &[
 fn hosts_that_fail(rt: HostRuntime) -> Result<(), Fail> {
     for (trouble, replies) in TROUBLES {
         let ends = quiet(Status::HostFault, *replies);
-        assert!(rt; runs_so(rt.alloc(), REPLAY, FIRST, *trouble, &ends)?);
+        assert!(rt; runs_so(rt.alloc(), FIRST, *trouble, &ends)?);
     }
     Ok(())
 }

@@ -1,0 +1,6 @@
+-- Lemmas on runs of events, for proofs here and above.
+pub mod Counting
+pub mod Readying
+pub mod Showing
+pub mod Stepping
+pub mod Writing

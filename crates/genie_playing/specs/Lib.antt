@@ -1,0 +1,5 @@
+pub mod Faults
+pub mod Lemmas
+pub mod Moments
+pub mod Plays
+pub mod Serving

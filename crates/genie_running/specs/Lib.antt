@@ -1,0 +1,4 @@
+pub mod Booted
+pub mod Ending
+pub mod Outcome
+pub mod Wiring
