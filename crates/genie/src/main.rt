@@ -1,11 +1,15 @@
-//! The program: it replays a script over real files.
+//! The program: it replays a script over real files, by a kernel over a store in memory.
 #![tactic(auto)]
 
-use genie_base::NoMemory;
-use genie_host::FileHost;
-use genie_replay::{Status, put_status, run};
+ghost use Rattle.std.specs.Prelude.{◌≡◌};
+
+use genie_commands::run;
+use genie_console::Console;
+use genie_host::{FileHost, Host};
+use genie_replay::{Status, put_status};
 use genie_script::LineBuffer;
-use std::alloc::AllocError;
+use genie_store::MemoryStore;
+use std::alloc::{AllocError, Global};
 use std::env;
 use std::process::ExitCode;
 
@@ -21,15 +25,35 @@ fn report(rt: &impl Eprint, status: &Status) {
     }
 }
 
+// Does what the words ask for, closes the kernel, and hands over the replies that still wait.
+fn serve<H: Host>(alloc: Global, words: &[String], console: &mut Console<H>) -> Status
+    requires { (H.view console.old.inner).opened ≡ 0 }
+{
+    let mut store = MemoryStore::new(alloc);
+    let status = run(alloc, words, console, &mut store).finish();
+    match console.finish() {
+        Ok(()) => status,
+        Err(_) => Status::HostFault,
+    }
+}
+
+// The same over real files.
+fn serve_files(rt: &HostRuntime, words: &[String]) -> Status {
+    let Ok(files) = FileHost::new(rt, rt.alloc()) else {
+        return Status::NoMemory;
+    };
+    match Console::new(rt.alloc(), files) {
+        Ok(mut console) => serve(rt.alloc(), words, &mut console),
+        Err(_) => Status::NoMemory,
+    }
+}
+
 fn main(rt: HostRuntime) -> ExitCode {
     let status = match env::args(&rt) {
         Err(_) => Status::Usage,
         Ok(args) => match args.skip(1).collect::<Vec<String>>(rt.alloc()) {
             Err(AllocError) => Status::NoMemory,
-            Ok(words) => match FileHost::new(&rt, rt.alloc()) {
-                Err(NoMemory) => Status::NoMemory,
-                Ok(mut host) => run(rt.alloc(), words.as_slice(), &mut host),
-            },
+            Ok(words) => serve_files(&rt, words.as_slice()),
         },
     };
     report(&rt, &status);
