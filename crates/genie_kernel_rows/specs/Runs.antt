@@ -1,8 +1,9 @@
 -- A kernel that steps a script over a host and a store.
-use Rattle.std.specs.Prelude.{◌≡◌, ℕ, ◌+◌, ◌<◌, ◌≤◌, List, flat_map, Option, None, Some, IfSome}
+use Rattle.std.specs.Prelude.{◌≡◌, ℕ, ◌+◌, ◌-◌, ◌^◌, ◌<◌, ◌≤◌, List, flat_map, Option, None, Some, IfSome}
 use Rattle.genie_base.specs.declared.config.DeviceConfig.{DeviceConfig}
 use Rattle.genie_host.specs.Host.{HostView, Mode, Reading, Writing, OthersKept}
 use Rattle.genie_store.specs.StoreView.{StoreView}
+use Rattle.genie_object.specs.Costs.{AreBelow}
 use Rattle.genie_object.specs.Sound.{IsSized}
 use Rattle.genie_orderly.specs.Lemmas.RegionNumbers.{times}
 use Rattle.genie_model.specs.Tables.{entry}
@@ -36,3 +37,9 @@ pub record IsReady (k : Kernel) (host : HostView) (v : StoreView) : Type 0 where
   pub good : IsGood k
   pub sized : IsSized k.memory v
   pub handles : HasHandles k.config host
+
+-- there is room for what an event counts, and a number for a transfer
+pub record HasRoom (k : Kernel) : Type 0 where
+  pub meters : AreBelow (2 ^ 63) k.memory.frames.meters
+  pub landed : k.memory.frames.landed < 2 ^ 63
+  pub numbered : k.next < 2 ^ 32 - 1

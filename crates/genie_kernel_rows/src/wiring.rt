@@ -3,7 +3,7 @@ ghost use Rattle.std.specs.Prelude.{◌≡◌, ◌<◌, ◌≤◌, ◌+◌, IfOk
 ghost use Rattle.genie_host.specs.Host.{Reading, Writing};
 ghost use Rattle.genie_kernel_rows.specs.Runs.{AreWired, OpensNext};
 
-use genie_base::DeviceConfig;
+use genie_base::{DeviceConfig, NoMemory};
 use genie_host::Host;
 use genie_script::{DeviceLine, Name};
 use thiserror::Error;
@@ -22,6 +22,16 @@ pub enum Trouble {
     /// The script asks for more than a run has.
     #[error("past the limits of a run")]
     Limits,
+    #[error("the replies of kernel and plain machine differ")]
+    Replies,
+    #[error("an output isn't what the plain machine has sent")]
+    Outputs,
+}
+
+impl From<NoMemory> for Trouble {
+    fn from(_error: NoMemory) -> Trouble {
+        Trouble::Memory
+    }
 }
 
 // Opens the input of a device, if it has one.
