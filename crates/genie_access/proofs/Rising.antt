@@ -4,7 +4,7 @@ use Rattle.genie_frame.specs.declared.frame.Meters.{Meters}
 use Rattle.genie_frame.specs.FrameTable.{FrameTable}
 use Rattle.genie_frame.specs.Frames.{more_written, stored}
 use Rattle.genie_object.specs.Costs.{AreBelow, Spends}
-use Rattle.genie_kernel.specs.Rising.{MetersRise}
+use Rattle.genie_kernel.specs.Rising.{MetersRise, NoneFell}
 use Rattle.genie_kernel.specs.Lemmas.Rising.{rises_moved}
 
 -- a page that is made ready, and bytes of it that are read
@@ -14,6 +14,7 @@ rises_page b g old new s landed most one = rises_moved b g 0 1 (2 ^ 14) old new 
 -- bytes that are stored in a page
 pub rises_put : (t u : FrameTable) (f x n : ℕ) (b : List ℕ) → u ≡ more_written (stored t f x b) n → n ≤ 4096 → MetersRise (2 ^ 12) t u
 rises_put t u f x n b e most = record {
+  low = subst (NoneFell t.meters) (sym (ap (λ (z : FrameTable). z.meters) e)) (record { read = omega arith; written = omega arith; copied = omega arith; zeroed = omega arith; puts = omega arith; gets = omega arith; taken = omega arith });
   meters = λ m a. subst (λ (w : Meters). AreBelow (m + 2 ^ 12) w) (sym (ap (λ (z : FrameTable). z.meters) e)) (record {
     read = omega (arith, a.read);
     written = omega (arith, a.written, most);

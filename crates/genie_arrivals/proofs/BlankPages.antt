@@ -30,6 +30,7 @@ use Rattle.genie_object.specs.Lemmas.Parted.{fresh_some, fresh_unheld, names_fre
 use Rattle.genie_object.specs.Lemmas.Renamed.{count_renamed, here, keeps_renamed, of_q, sound_renamed, touches_renamed}
 use Rattle.genie_object.specs.Lemmas.Touching.{keeps_all, keeps_metered, keeps_on, sound_metered, touches_metered, touches_more, touches_none, touches_on}
 use Rattle.genie_object.specs.Lemmas.Works.{page_most}
+use Rattle.genie_kernel.specs.Rising.{NoneFell}
 use Rattle.genie_kernel.specs.Lemmas.Rising.{rises_most, rises_none, rises_twice}
 use Rattle.genie_arrivals.specs.Blanks.{BlanksObject, BlanksPage, BlanksSoFar}
 use Rattle.genie_arrivals.specs.Clearing.{ClearsObject}
@@ -62,8 +63,8 @@ module _ (m : Memory) (o i q : ℕ) (x : CanRename m o i q) (g : FrameId) (b : L
   sound = sound_renamed m o i q x
 
   -- with a page of these bytes
-  pub page_blank : ((slots : ℕ → List ℕ) → b ≡ (seen m slots).entry_bytes o i) → ((n : ℕ) → AreBelow n m.frames.meters → AreBelow (n + 4097) t) → BlanksPage m (metered new t) o i
-  page_blank bytes below = record {
+  pub page_blank : ((slots : ℕ → List ℕ) → b ≡ (seen m slots).entry_bytes o i) → NoneFell m.frames.meters t → ((n : ℕ) → AreBelow n m.frames.meters → AreBelow (n + 4097) t) → BlanksPage m (metered new t) o i
+  page_blank bytes low below = record {
     sound = sound_metered new t (sound_parted m o i q x g b there free full);
     keeps = keeps_metered m new t (keeps_on m base new (keeps_renamed m o i q x) (keeps_filled base q g b sound some unheld there free full));
     touches = touches_metered (is_entry o i) m new t (touches_on (is_entry o i) m base new (touches_renamed m o i q x (is_entry o i) (spoken o i)) (touches_filled base q g b sound some unheld there free full (is_entry o i) (outside_not base o i number (names_fresh m o i q x))));
@@ -80,6 +81,7 @@ module _ (m : Memory) (o i q : ℕ) (x : CanRename m o i q) (g : FrameId) (b : L
     shut = ap (λ (e : Entry). e.writable) (here m o i q x);
     free = free_filled base q g b sound some unheld there free full;
     pages = omega (arith, count_filled base q g b sound some unheld there free full, count_renamed m o i q x);
+    low = low;
     below = below;
     landed = refl;
   }
@@ -121,6 +123,7 @@ page_made m r t u pages o i q n g s l empty room spare er lg free et en eu ep =
     let most = page_most page s.shaped.size in
     subst (λ (z : Memory). BlanksPage m z o i) (sym made) (page_blank m o i q x g b there was full meters
     (λ slots. sym (ap (page_bytes m.frames m.pages.pages slots) empty))
+    (record { read = omega arith; written = omega arith; copied = omega arith; zeroed = omega arith; puts = omega arith; gets = omega arith; taken = omega arith })
     (λ k below. record { read = omega (arith, below.read); written = omega (arith, below.written); copied = omega (arith, below.copied); zeroed = omega (arith, below.zeroed, most); puts = omega (arith, below.puts); gets = omega (arith, below.gets); taken = omega (arith, below.taken) }))
 
 empty_shut : (m : Memory) (o i : ℕ) → IsSound m → IsEmpty m o i → (entry_at m.objects o i).writable ≡ false
@@ -162,7 +165,7 @@ blanks_more old now new o n x y = record {
   ];
   free = omega (arith, x.free, y.free);
   pages = omega (arith, x.pages, y.pages);
-  rises = rises_twice (8192 * n) 4097 (8192 * (n + 1)) old.frames now.frames new.frames (omega arith) x.rises (record { meters = y.below; landed = omega (arith, y.landed) });
+  rises = rises_twice (8192 * n) 4097 (8192 * (n + 1)) old.frames now.frames new.frames (omega arith) x.rises (record { low = y.low; meters = y.below; landed = omega (arith, y.landed) });
 }
   where
     still_shut : (a b : Bool) → (b ≡ true → a ≡ true) → a ≡ false → b ≡ false

@@ -13,8 +13,8 @@ use Rattle.genie_plan.specs.Loans.{Ended, Loan}
 use Rattle.genie_plan.specs.Plans.{OnlyRange}
 use Rattle.genie_frame.specs.declared.frame.Owner.{Owner}
 use Rattle.genie_kernel.specs.declared.transfer.Transfer.{Transfer}
-use Rattle.genie_kernel.specs.Rising.{MetersRise}
-use Rattle.genie_kernel.specs.Lemmas.Rising.{rises_left, rises_moved, rises_twice}
+use Rattle.genie_kernel.specs.Rising.{MetersRise, NoneFell}
+use Rattle.genie_kernel.specs.Lemmas.Rising.{none_fell, rises_left, rises_moved, rises_twice}
 use Rattle.genie_changes.specs.Ending.{IsGivenBack}
 use Rattle.genie_arrivals.proofs.Readying.{works_most}
 
@@ -41,6 +41,7 @@ rises_ready a m new o i first len n page most x spends landed =
 -- so many bytes are copied
 pub rises_copied : (len k : ℕ) (old new : FrameTable) → len ≤ k → new.meters ≡ record (old.meters) { copied = old.meters.copied + len } → new.landed ≡ old.landed → MetersRise k old new
 rises_copied len k old new most meters landed = record {
+  low = subst (NoneFell old.meters) (sym meters) (record { read = omega arith; written = omega arith; copied = omega arith; zeroed = omega arith; puts = omega arith; gets = omega arith; taken = omega arith });
   meters = λ n a. subst (AreBelow (n + k)) (sym meters) (record { read = omega (arith, a.read); written = omega (arith, a.written); copied = omega (arith, a.copied, most); zeroed = omega (arith, a.zeroed); puts = omega (arith, a.puts); gets = omega (arith, a.gets); taken = omega (arith, a.taken) });
   landed = omega (arith, landed);
 }
@@ -48,6 +49,7 @@ rises_copied len k old new most meters landed = record {
 -- fresh frames are lent, and so many bytes land in them
 pub rises_landed : (owner : Owner) (frames : List ℕ) (first len n k : ℕ) (old mid new : FrameTable) → length frames ≤ k → n ≤ k → AreLentFresh owner frames old mid → OnlyRange frames first len mid new → new.landed ≤ mid.landed + n → MetersRise k old new
 rises_landed owner frames first len n k old mid new some most x only lands = record {
+  low = subst (NoneFell old.meters) (sym (only.meters ∙ x.meters)) (record { read = omega arith; written = omega arith; copied = omega arith; zeroed = omega arith; puts = omega arith; gets = omega arith; taken = omega arith });
   meters = λ b a. subst (AreBelow (b + k)) (sym (only.meters ∙ x.meters)) (record { read = omega (arith, a.read); written = omega (arith, a.written); copied = omega (arith, a.copied); zeroed = omega (arith, a.zeroed); puts = omega (arith, a.puts); gets = omega (arith, a.gets); taken = omega (arith, a.taken, some) });
   landed = omega (arith, lands, x.landed, most);
 }
@@ -59,6 +61,7 @@ rises_back k t a old new x back = rises_left k a old new (back.loans.meters ∙ 
 -- nor does a change of owners alone
 pub rises_owners : (k : ℕ) (old mid new : FrameTable) → mid ≡ record old { owners = mid.owners } → MetersRise k mid new → MetersRise k old new
 rises_owners k old mid new only x = record {
+  low = subst (λ m. NoneFell m new.meters) (ap (λ (f : FrameTable). f.meters) only) x.low;
   meters = λ n below. x.meters n (subst (AreBelow n) (sym (ap (λ (f : FrameTable). f.meters) only)) below);
   landed = (let same = ap (λ (f : FrameTable). f.landed) only in omega (arith, x.landed, same));
 }
@@ -66,6 +69,7 @@ rises_owners k old mid new only x = record {
 -- so many bytes land
 pub rises_lands : (n k : ℕ) (old new : FrameTable) → n ≤ k → new.meters ≡ old.meters → new.landed ≤ old.landed + n → MetersRise k old new
 rises_lands n k old new most meters lands = record {
+  low = none_fell old.meters new.meters meters;
   meters = λ b below. below_more b (b + k) new.meters (omega arith) (subst (AreBelow b) (sym meters) below);
   landed = omega (arith, lands, most);
 }

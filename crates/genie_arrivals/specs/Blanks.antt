@@ -9,7 +9,7 @@ use Rattle.genie_object.specs.Costs.{AreBelow}
 use Rattle.genie_object.specs.Pages.{is_there}
 use Rattle.genie_object.specs.Sound.{IsPrivate, IsSound}
 use Rattle.genie_object.specs.Touching.{KeepsLoans, Touches, is_entry}
-use Rattle.genie_kernel.specs.Rising.{MetersRise}
+use Rattle.genie_kernel.specs.Rising.{MetersRise, NoneFell}
 use Rattle.genie_arrivals.specs.PooledRoom.{ArePrivate}
 
 -- so many entries of an object that has no pages may get a page of their own each
@@ -46,6 +46,7 @@ pub record BlanksPage (old new : Memory) (o i : ℕ) : Type 0 where
   pub shut : (entry_at new.objects o i).writable ≡ false
   pub free : count_by is_free old.frames.owners ≤ count_by is_free new.frames.owners + 1
   pub pages : count_by is_there new.pages.pages ≤ count_by is_there old.pages.pages + 1
+  pub low : NoneFell old.frames.meters new.frames.meters
   pub below : (b : ℕ) → AreBelow b old.frames.meters → AreBelow (b + 4097) new.frames.meters
   pub landed : new.frames.landed ≡ old.frames.landed
 

@@ -207,6 +207,7 @@ module _ (m : Memory) (o i n : ℕ) (u : Unlent) (s : IsSound m) (x : IsUnlent m
         ∙ ap (λ (z : Memory). record z { frames = (claimed m o i u n).frames }) (sym is_dropped);
     same = λ g e free. let is : Some f ≡ Some g = sym (ap (frame_of m.pages.pages) x.is_page ∙ ap frame_in x.is_place) ∙ e in cc;
     meter = omega arith;
+    low = omega arith;
   }
 
 -- what another frame leaves, where a loan is out on the page's own
@@ -214,16 +215,16 @@ pub free_lends : (m z new : Memory) (o i n g : ℕ) → IsSound m → z ≡ empt
 free_lends m z new o i n g s is none there free e =
     let x = empties_entry m o i s in
     let frames : new.frames ≡ taken_lent z.frames g (System n) = ap (λ (y : Memory). y.frames) e in
+    let after : new.frames.meters.taken ≡ z.frames.meters.taken + 1 = ap (λ (t : FrameTable). t.meters.taken) frames in
+    let before : z.frames.meters.taken ≡ m.frames.meters.taken = ap (λ (y : Memory). y.frames.meters.taken) is ∙ ap (λ (t : FrameTable). t.meters.taken) x.frames in
     record {
       there = let size = x.number in let same : length z.frames.owners ≡ length (emptied_entry m o i).frames.owners = ap (λ (y : Memory). length y.frames.owners) is in omega (arith, there, same, size);
       was_free = ap (λ (y : Memory). owner_at y.frames g) (sym is) ∙ free;
       frames = λ count. ap (λ t. with_taken t (count + 1)) frames ∙ ap (λ (y : Memory). taken_lent (with_taken y.frames count) g (System n)) is;
       rest = e ∙ ap (λ t. record z { frames = t }) (sym frames) ∙ ap (λ (y : Memory). record y { frames = new.frames }) is;
       same = λ h at unlent. let lent = none h at in absurd (cc);
-      meter =
-          let a : new.frames.meters.taken ≡ z.frames.meters.taken + 1 = ap (λ (t : FrameTable). t.meters.taken) frames in
-          let b : z.frames.meters.taken ≡ m.frames.meters.taken = ap (λ (y : Memory). y.frames.meters.taken) is ∙ ap (λ (t : FrameTable). t.meters.taken) x.frames in
-          omega (arith, a, b);
+      meter = omega (arith, before, after);
+      low = omega (arith, before, after);
     }
 
 -- the entries of object o below k
@@ -243,6 +244,7 @@ pub record ClaimedSoFar (n o : ℕ) (frames : List ℕ) (k : ℕ) (old now : Mem
   pub more : count_by is_free old.frames.owners ≤ count_by is_free mid.frames.owners
   pub same : (j f : ℕ) → j < k → entry_frame old o j ≡ Some f → is_lent (counts_at old.frames f) ≡ false → 0 < times frames f
   pub meter : now.frames.meters.taken ≤ old.frames.meters.taken + k
+  pub low : old.frames.meters.taken ≤ now.frames.meters.taken
 
 pub none_claimed : (n o : ℕ) (frames : List ℕ) (m : Memory) → frames ≡ [] → IsSound m → IsCached m o → ClaimedSoFar n o frames 0 m m
 none_claimed n o frames m e s cached = subst (λ fs. ClaimedSoFar n o fs 0 m m) (sym e) (record {
@@ -257,6 +259,7 @@ none_claimed n o frames m e s cached = subst (λ fs. ClaimedSoFar n o fs 0 m m) 
   more = omega arith;
   same = λ j f l. absurd (omega (arith, l));
   meter = omega arith;
+  low = omega arith;
 })
 
 -- the meter of frames that were handed out is no part of what is sound
@@ -339,6 +342,7 @@ module _ (n o k : ℕ) (fs : List ℕ) (old now new : Memory) (g : ℕ) (x : Cla
           | inr d ↦ let was = x.same j f (omega (arith, l, d)) e unlent in omega (arith, pushed, was)
         ];
     meter = let a = x.meter in let b = lend.meter in omega (arith, a, b);
+    low = let a = x.low in let b = lend.low in omega (arith, a, b);
   }
 
 -- what the next entry asks for
@@ -408,6 +412,7 @@ module _ (n len o : ℕ) (plan : InPlan) (old now : Memory) (sound : IsSound old
       count = x.count;
       fresh = x.fresh;
       taken = let meter = x.meter in let number = x.number in let same = ap (λ (t : FrameTable). t.meters.taken) x.empties.frames in omega (arith, meter, number, same);
+      low = let low = x.low in let same = ap (λ (t : FrameTable). t.meters.taken) x.empties.frames in omega (arith, low, same);
       shows = untaken_shows fs gone now.frames x.count (fresh_shows gone (with_taken now.frames x.count) (System n) fs is_removed.sound refl x.fresh);
       pages = refl;
       objects = refl;

@@ -39,6 +39,15 @@ rises_buffer n at len early old new loans few x =
     let gets : new.frames.meters.gets ≡ old.frames.meters.gets = ap (λ (w : Meters). w.gets) same in
     let landed : new.frames.landed ≡ old.frames.landed = x.fresh.landed in
     record {
+      low = record {
+        read = omega (arith, read);
+        written = omega (arith, written);
+        copied = omega (arith, copied);
+        zeroed = omega (arith, zeroed);
+        puts = omega (arith, puts);
+        gets = omega (arith, gets);
+        taken = x.low;
+      };
       meters = λ m a. record {
         read = omega (arith, a.read, read);
         written = omega (arith, a.written, written);

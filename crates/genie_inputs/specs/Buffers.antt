@@ -45,6 +45,7 @@ pub record LendsBuffer (n at len : ℕ) (early : Bool) (old new : Memory) (loans
   pub count : ℕ
   pub fresh : AreLentFresh (System n) (frames_of loans) old.frames (with_taken new.frames count)
   pub taken : new.frames.meters.taken ≤ old.frames.meters.taken + length (frames_of loans)
+  pub low : old.frames.meters.taken ≤ new.frames.meters.taken
   pub shows : ShowsBesides (frames_of loans) old new
   pub pages : new.pages ≡ old.pages
   pub objects : new.objects ≡ old.objects

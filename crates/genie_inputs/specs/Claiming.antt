@@ -44,6 +44,7 @@ pub record LendsEntry (n o i : ℕ) (old new : Memory) (f : ℕ) : Type 0 where
   pub rest : new ≡ record (emptied_entry old o i) { frames = new.frames }
   pub same : (g : ℕ) → entry_frame old o i ≡ Some g → is_lent (counts_at old.frames g) ≡ false → f ≡ g
   pub meter : new.frames.meters.taken ≤ old.frames.meters.taken + 1
+  pub low : old.frames.meters.taken ≤ new.frames.meters.taken
 
 -- the object goes, and the buffer is lent as if from the free frames that are left then; each frame of its pages that
 -- carried no loan is one of the buffer's

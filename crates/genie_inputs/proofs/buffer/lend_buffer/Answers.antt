@@ -18,6 +18,7 @@ returns-then-early c =
       count = new.frames.meters.taken;
       fresh = e.fresh;
       taken = omega (arith, count);
+      low = omega (arith, count);
       shows = e.seen;
       pages = e.pages;
       objects = e.objects;
@@ -34,6 +35,7 @@ returns-else-early c =
       count = m.frames.meters.taken;
       fresh = fresh_none (System a.id.0) m.frames;
       taken = omega arith;
+      low = omega arith;
       shows = record { entries = λ slots. refl; others = λ slots f z. refl };
       pages = refl;
       objects = refl;
