@@ -1,7 +1,6 @@
 -- How a made run ends.
-use Rattle.std.proofs.Common.{◌≡◌, ◌≢◌, ℕ, codes, refl, ap, sym, ◌∙◌, subst, arith, inl, inr}
-use Rattle.std.specs.Prelude.{◌⊎◌, ◌<◌, Option, None, Some}
-use Rattle.genie_base.specs.Causes.{Rose}
+use Rattle.std.proofs.Common.{◌≡◌, ◌≢◌, ℕ, codes, refl, ap, ◌∙◌, subst, arith, inl, inr}
+use Rattle.std.specs.Prelude.{Option, None, Some}
 use Rattle.genie_gen.specs.GenView.{GenView, fresh, host_of}
 use Rattle.genie_gen.specs.Lemmas.Faultless.{faultless}
 use Rattle.genie_gen.specs.Rounds.{script_text}
@@ -13,17 +12,18 @@ use Rattle.genie_store.specs.StoreView.{StoreView}
 use Rattle.genie_replay.specs.Statuses.{status_of}
 use Rattle.genie_replay.specs.declared.status.Status.{Status}
 use Rattle.genie_replay.specs.declared.status.Status.TheVariants.{Done, Usage, BadLine, HostFault, NoMemory, TooLong, BadBoot}
+use Rattle.genie_playing.specs.declared.costs.Listing.TheVariants.{Replies}
 use Rattle.genie_running.specs.Outcome.{HandsBack, HasRunCause, IsOutcome, OutcomeOf}
 use Rattle.genie_commands.specs.Makes.{MakesOf, MadeRun}
 
 module _ (seed rounds : ℕ) (g : GenView) (kernel : Option Kernel) (v w : StoreView) where
   abbrev RanSo : Status → Type 0
-  RanSo status = OutcomeOf (codes "made") (Some (script_text seed rounds)) status kernel (host_of (fresh seed rounds)) (host_of g) v w
+  RanSo status = OutcomeOf Replies (codes "made") (Some (script_text seed rounds)) status kernel (host_of (fresh seed rounds)) (host_of g) v w
 
   -- what the boot part comes to
   booted : (status : Status) (says : SaysMade seed rounds) → RanSo status
-      → IsOutcome (codes "made") (Booted made_part 4 says.lines) status kernel (host_of (fresh seed rounds)) (host_of g) v w
-  booted status says ran = subst (λ (b : Boot). IsOutcome (codes "made") b status kernel (host_of (fresh seed rounds)) (host_of g) v w) says.booted ran
+      → IsOutcome Replies (codes "made") (Booted made_part 4 says.lines) status kernel (host_of (fresh seed rounds)) (host_of g) v w
+  booted status says ran = subst (λ (b : Boot). IsOutcome Replies (codes "made") b status kernel (host_of (fresh seed rounds)) (host_of g) v w) says.booted ran
 
   -- nothing fails on the host of a made run: the store wasn't sized
   unsized : HasRunCause (host_of (fresh seed rounds)) (host_of g) v w → w.count ≡ 0

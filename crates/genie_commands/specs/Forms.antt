@@ -1,29 +1,20 @@
 -- What is done for each form of words.
-use Rattle.std.specs.Prelude.{◌≡◌, ◌<◌, List, ℕ, Option, None, Some, ⊤}
+use Rattle.std.specs.Prelude.{◌≡◌, ◌<◌, Option, None, Some}
 use Rattle.genie_host.specs.Host.{HostView, OnlyHandle}
 use Rattle.genie_store.specs.StoreView.{StoreView}
 use Rattle.genie_object.specs.Sound.{IsSized}
 use Rattle.genie_kernel.specs.declared.kernel.Kernel.{Kernel}
 use Rattle.genie_kernel.specs.Good.{IsGood}
-use Rattle.genie_words.specs.Forms.{Meaning, ReplayOf, CostOf, MakeOf, Means}
+use Rattle.genie_words.specs.Forms.{Meaning, ReplayOf, CostOf, MakeOf}
 use Rattle.genie_replay.specs.declared.status.Status.{Status}
-use Rattle.genie_replay.specs.declared.status.Status.TheVariants.{Usage, NoMemory}
+use Rattle.genie_replay.specs.declared.status.Status.TheVariants.{NoMemory}
+use Rattle.genie_playing.specs.declared.costs.Listing.TheVariants.{Replies, Costs}
 use Rattle.genie_running.specs.Outcome.{OutcomeOf}
 use Rattle.genie_commands.specs.Makes.{MakesOf}
 
--- `cost` isn't served yet
-abbrev pub IsServed : Meaning → Type 0
-IsServed (ReplayOf name) = ⊤
-IsServed (CostOf name) = ⊥
-IsServed (MakeOf seed rounds) = ⊤
-
--- the words are none of the forms that are served
-abbrev pub IsUnserved : List (List ℕ) → Type 0
-IsUnserved words = (m : Meaning) → Means words m → IsServed m → ⊥
-
 abbrev pub Does : Meaning → Status → Option Kernel → HostView → HostView → StoreView → StoreView → Type 0
-Does (ReplayOf name) status kernel old new v w = OutcomeOf name (old.names name) status kernel old new v w
-Does (CostOf name) status kernel old new v w = status ≡ Usage
+Does (ReplayOf name) status kernel old new v w = OutcomeOf Replies name (old.names name) status kernel old new v w
+Does (CostOf name) status kernel old new v w = OutcomeOf Costs name (old.names name) status kernel old new v w
 Does (MakeOf seed rounds) status kernel old new v w = MakesOf seed rounds status kernel old new v w × OnlyHandle 0 old new
 
 -- memory ran out before anything was done

@@ -10,13 +10,14 @@ use Rattle.genie_kernel.specs.declared.kernel.Kernel.{Kernel}
 use Rattle.genie_replay.specs.Write.{AppendsFront}
 use Rattle.genie_replay.specs.declared.status.Status.{Status}
 use Rattle.genie_replay.specs.declared.status.Status.TheVariants.{Done, HostFault, NoMemory}
+use Rattle.genie_playing.specs.declared.costs.Listing.TheVariants.{Replies}
 use Rattle.genie_running.specs.Outcome.{OutcomeOf}
 use Rattle.genie_commands.specs.Summaries.{summary_text}
 
 -- A run over the made script and streams, which were told and not yet opened, ended so and replied with this text.
 pub record MadeRun (seed rounds : ℕ) (text : List ℕ) (status : Status) (kernel : Option Kernel) (v w : StoreView) : Type 0 where
   pub after : HostView
-  pub ran : OutcomeOf (codes "made") (Some (script_text seed rounds)) status kernel (host_of (fresh seed rounds)) after v w
+  pub ran : OutcomeOf Replies (codes "made") (Some (script_text seed rounds)) status kernel (host_of (fresh seed rounds)) after v w
   pub replied : (after.handle 0).bytes ≡ Some text
 
 -- that run was done, and the summary of its replies was written

@@ -8,6 +8,7 @@ ghost use Rattle.genie_commands.specs.Makes.{HasMakeCause, MakesOf};
 use crate::summary::put_summary;
 use genie_gen::{GenHost, made_scripts_are_whole};
 use genie_host::Host;
+use genie_playing::costs::Listing;
 use genie_playing::serving::REPLIES;
 use genie_replay::{Status, write_all};
 use genie_running::{Ended, replay};
@@ -41,7 +42,7 @@ pub(crate) fn make<H: Host, S: Store>(
 {
     made_scripts_are_whole();
     let mut made = GenHost::new(seed, rounds);
-    let ended = replay(alloc, MADE, &mut made, store);
+    let ended = replay(alloc, Listing::Replies, MADE, &mut made, store);
     if ended.status != Status::Done {
         return ended;
     }

@@ -10,9 +10,11 @@ use std::alloc::Global;
 use std::test::Fail;
 
 const SCRIPT: &[u8] =
-    b"boot 16 32 64 16 8\ndevice 0 early - o0 1 0\nspawn 0\nmap 0 0 4\nwrite 0 0 aabb\nout 0 ec 0 5 0 2\nsend 0 10\nsend 0 10\ndone 1\n";
+    b"boot 16 32 64 0 8\ndevice 0 early - o0 1 0\nspawn 0\nmap 0 0 4\nwrite 0 0 aabb\nout 0 ec 0 5 0 2\nsend 0 10\nsend 0 10\ndone 1\n";
 
 const REPLAY: &[&str] = &["replay", "s"];
+
+const COST: &[&str] = &["cost", "s"];
 
 const MAKE: &[&str] = &["make", "1", "1"];
 
@@ -90,7 +92,7 @@ fn quiet(status: Status) -> Ends {
 #[test]
 fn words_that_are_no_command(rt: HostRuntime) -> Result<(), Fail> {
     let none: &[&str] = &[];
-    for words in [none, &["replay", "-s"], &["make", "1", "0"], &["cost", "s"]] {
+    for words in [none, &["replay", "-s"], &["make", "1", "0"], &["cost"]] {
         assert!(rt; runs_so(rt.alloc(), words, None, &quiet(Status::Usage))?);
     }
     Ok(())
@@ -119,6 +121,29 @@ fn a_script_whose_device_fails_goes_on(rt: HostRuntime) -> Result<(), Fail> {
         has_kernel: true,
     };
     assert!(rt; runs_so(rt.alloc(), REPLAY, Some((b"", 8)), &cut)?);
+    Ok(())
+}
+
+// The bytes that `write` stores stand in a page that it fills with zeros. Nothing of the output is copied.
+const COSTS: &[u8] =
+    b"ok\nok\n# read 0 written 0 copied 0 zeroed 0 puts 0 gets 0 taken 0\nok\n# read 0 written 0 copied 0 zeroed 0 puts 0 gets 0 taken 0\nok\n# read 0 written 2 copied 0 zeroed 16 puts 0 gets 0 taken 1\nid 1\n# read 0 written 0 copied 0 zeroed 0 puts 0 gets 0 taken 0\nsent 10\n# read 0 written 0 copied 0 zeroed 0 puts 0 gets 0 taken 0\nidle\n# read 0 written 0 copied 0 zeroed 0 puts 0 gets 0 taken 0\nout 2\n# read 0 written 0 copied 0 zeroed 0 puts 0 gets 0 taken 0\n";
+
+#[test]
+fn costs_are_listed(rt: HostRuntime) -> Result<(), Fail> {
+    let whole = Ends {
+        status: Status::Done,
+        replies: COSTS,
+        sent: b"GD\x00\x05\x00\x00\x00\x02\xaa\xbb",
+        has_kernel: true,
+    };
+    assert!(rt; runs_so(rt.alloc(), COST, None, &whole)?);
+    let cut = Ends {
+        status: Status::HostFault,
+        replies: &COSTS[..50],
+        sent: b"",
+        has_kernel: true,
+    };
+    assert!(rt; runs_so(rt.alloc(), COST, Some((b"", 50)), &cut)?);
     Ok(())
 }
 

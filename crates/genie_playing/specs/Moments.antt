@@ -3,6 +3,7 @@ use Rattle.std.specs.Prelude.{◌≡◌, ◌≢◌, ℕ, ◌+◌, ◌-◌, ◌^�
 use Rattle.genie_base.specs.Events.{mark_of}
 use Rattle.genie_base.specs.declared.event.Event.{Event}
 use Rattle.genie_base.specs.declared.reply.Reply.{Reply}
+use Rattle.genie_frame.specs.declared.frame.Meters.{Meters}
 use Rattle.genie_host.specs.Host.{HostView}
 use Rattle.genie_store.specs.StoreView.{StoreView}
 use Rattle.genie_object.specs.Costs.{AreBelow}
@@ -18,6 +19,7 @@ use Rattle.genie_kernel.specs.Steps.{StepsTold}
 use Rattle.genie_kernel.specs.View.{view}
 use Rattle.genie_calls.specs.Serving.{Touches, touched_by}
 use Rattle.genie_replay.specs.Plays.{LaterFaults, OnlyRun}
+use Rattle.genie_playing.specs.Costs.{Answer, raise}
 
 -- a kernel, and the host and the store that it stands over
 pub record Moment : Type 0 where
@@ -31,6 +33,10 @@ moment kernel host store = record { kernel = kernel; host = host; store = store 
 -- the flat state that it stands for, where the host and the store tell their bytes
 abbrev pub shown : Moment → Option State
 shown m = view m.kernel m.host m.store
+
+-- what was counted up to then
+abbrev pub meters_of : Moment → Meters
+meters_of m = m.kernel.memory.frames.meters
 
 -- an event can be stepped: the kernel is good, over a store of its size; its handles are open, and none of them is the
 -- script's
@@ -63,7 +69,12 @@ pub record Serves (old : Moment) (e : Event) (reply : Reply) (new : Moment) : Ty
   pub rises : MetersRise (2 ^ 36) old.kernel.memory.frames new.kernel.memory.frames
   pub numbers : new.kernel.next ≤ old.kernel.next + 1
 
--- a reply is written and a line is read: nothing else changes
+-- and this is how far the meters rose in it
+pub record StepsTo (old : Moment) (e : Event) (a : Answer) (new : Moment) : Type 0 where
+  pub serves : Serves old e a.reply new
+  pub cost : a.cost ≡ raise (meters_of old) (meters_of new)
+
+-- what is said of an event is written and a line is read: nothing else changes
 pub record Between (old new : Moment) : Type 0 where
   pub kernel : new.kernel ≡ old.kernel
   pub host : OnlyRun old.host new.host
@@ -71,10 +82,10 @@ pub record Between (old new : Moment) : Type 0 where
   pub store : new.store ≡ old.store
 
 -- the kernel steps these events, one after the other, and answers so
-abbrev pub Steps : Moment → List Event → List Reply → Moment → Type 0
+abbrev pub Steps : Moment → List Event → List Answer → Moment → Type 0
 Steps old [] [] new = Between old new
-Steps old (e ∷ es) (r ∷ rs) new = (before : Moment) × (after : Moment) × Between old before × Serves before e r after × Steps after es rs new
-Steps old [] (r ∷ rs) new = ⊥
+Steps old (e ∷ es) (a ∷ answers) new = (before : Moment) × (after : Moment) × Between old before × StepsTo before e a after × Steps after es answers new
+Steps old [] (a ∷ answers) new = ⊥
 Steps old (e ∷ es) [] new = ⊥
 
 -- the same by the flat machine, from a state that is told

@@ -5,6 +5,7 @@ ghost use Rattle.genie_host.specs.Host.{Reading};
 ghost use Rattle.genie_playing.specs.Moments.{IsFresh, IsReady, moment};
 ghost use Rattle.genie_playing.specs.Plays.{Leaves, Plays};
 
+use crate::costs::Listing;
 use crate::serving::{Buffers, Stop, take_line};
 use genie_host::Host;
 use genie_kernel::Kernel;
@@ -13,12 +14,13 @@ use genie_replay::{LineStep, Script, Status};
 use genie_script::{LineBuffer, MOST_LINES};
 use genie_store::Store;
 
-/// Steps the events of the lines that are left, and writes each reply before it reads the next line. The first of these
-/// lines was read, and so many stand before it. It takes no memory.
+/// Steps the events of the lines that are left, and writes each reply, and what the event cost where that is listed, before it
+/// reads the next line. The first of these lines was read, and so many stand before it. It takes no memory.
 pub fn play<H: Host, S: Store>(
     kernel: &mut Kernel,
     host: &mut H,
     store: &mut S,
+    listing: Listing,
     script: &mut Script,
     line: &mut LineBuffer,
     buffers: &mut Buffers,
@@ -32,7 +34,7 @@ pub fn play<H: Host, S: Store>(
 
     // The kernel is good over a store of its size, and its handles are open, whatever the host and the store tell.
     ensures ready { IsReady kernel.new (H.view host.new) (S.view store.new) }
-    ensures played { Plays result (prepend_known script.old ((H.view host.old).handle 1).bytes) step line.old before
+    ensures played { Plays listing result (prepend_known script.old ((H.view host.old).handle 1).bytes) step line.old before
         (moment kernel.old (H.view host.old) (S.view store.old)) (moment kernel.new (H.view host.new) (S.view store.new)) }
     ensures config { kernel.new.config ≡ kernel.old.config }
     ensures leaves { Leaves result (H.view host.old) (H.view host.new) }
@@ -46,7 +48,7 @@ pub fn play<H: Host, S: Store>(
             LineStep::End => return Status::Done,
             LineStep::TooLong => return Status::TooLong,
         }
-        match take_line(kernel, host, store, buffers, line.as_slice(), at) {
+        match take_line(kernel, host, store, listing, buffers, line.as_slice(), at) {
             Ok(()) => {}
             Err(Stop::Ended(ending)) => return Status::of(ending),
             Err(Stop::Host) => return Status::HostFault,

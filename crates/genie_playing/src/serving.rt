@@ -6,12 +6,12 @@ ghost use Rattle.genie_script.specs.Lines.{line_of};
 ghost use Rattle.genie_playing.specs.Moments.{HasRoom, IsReady, moment};
 ghost use Rattle.genie_playing.specs.Serving.{Answers, TakesLine};
 
+use crate::costs::{Listing, raise, write_answer};
 use genie_base::{Event, PageBuffer};
 use genie_calls::step::step;
 use genie_host::Host;
 use genie_kernel::Kernel;
-use genie_replay::write_all;
-use genie_script::{Ending, Judged, LineBuffer, judge_event, put_reply};
+use genie_script::{Ending, Judged, LineBuffer, judge_event};
 use genie_store::Store;
 
 /// The handle of the replies.
@@ -20,7 +20,7 @@ pub const REPLIES: u32 = 0;
 /// Why a run stops at a line.
 #[derive(Clone, Copy, Debug, PartialEq, Eq)]
 pub enum Stop {
-    /// The reply couldn't be written.
+    /// What is said of the event couldn't be written.
     Host,
     /// The script ends there.
     Ended(Ending),
@@ -33,7 +33,7 @@ pub struct Buffers {
     pub said: PageBuffer,
     // the bytes that a `read` answers
     answer: PageBuffer,
-    // the text of a reply
+    // the text of a reply, or of a cost
     text: LineBuffer,
 }
 
@@ -48,11 +48,12 @@ impl Buffers {
     }
 }
 
-// Steps an event, and writes its reply.
+// Steps an event, and writes its reply, and what it cost where that is listed.
 fn serve<H: Host, S: Store>(
     kernel: &mut Kernel,
     host: &mut H,
     store: &mut S,
+    listing: Listing,
     event: &Event,
     answer: &mut PageBuffer,
     text: &mut LineBuffer,
@@ -61,13 +62,13 @@ fn serve<H: Host, S: Store>(
     requires room { HasRoom kernel.old }
     requires whole { IsTrue (is_whole event.now) }
     ensures ready { IsReady kernel.new (H.view host.new) (S.view store.new) }
-    ensures answers { Answers (moment kernel.old (H.view host.old) (S.view store.old)) event.now
+    ensures answers { Answers listing (moment kernel.old (H.view host.old) (S.view store.old)) event.now
         (moment kernel.new (H.view host.new) (S.view store.new)) result }
 {
+    let before = kernel.meters();
     let reply = step(kernel, host, store, event, answer);
-    text.clear();
-    put_reply(&reply, text);
-    match write_all(host, REPLIES, text.as_slice()) {
+    let cost = raise(&before, &kernel.meters());
+    match write_answer(host, listing, &reply, &cost, text) {
         Ok(()) => Ok(()),
         Err(_) => Err(Stop::Host),
     }
@@ -78,6 +79,7 @@ pub fn take_line<H: Host, S: Store>(
     kernel: &mut Kernel,
     host: &mut H,
     store: &mut S,
+    listing: Listing,
     buffers: &mut Buffers,
     line: &[u8],
     before: u64,
@@ -86,7 +88,7 @@ pub fn take_line<H: Host, S: Store>(
     requires ready { IsReady kernel.old (H.view host.old) (S.view store.old) }
     requires room { HasRoom kernel.old }
     ensures ready { IsReady kernel.new (H.view host.new) (S.view store.new) }
-    ensures takes { TakesLine (event_said before (line_of line.now)) (moment kernel.old (H.view host.old) (S.view store.old))
+    ensures takes { TakesLine listing (event_said before (line_of line.now)) (moment kernel.old (H.view host.old) (S.view store.old))
         (moment kernel.new (H.view host.new) (S.view store.new)) result }
 {
     match judge_event(before, line, &mut buffers.said) {
@@ -97,6 +99,7 @@ pub fn take_line<H: Host, S: Store>(
                 kernel,
                 host,
                 store,
+                listing,
                 &event,
                 &mut buffers.answer,
                 &mut buffers.text,

@@ -8,6 +8,7 @@ use genie_base::{Config, DeviceConfig, Kind, Mark, NoMemory, PageBuffer};
 use genie_flat::Flat;
 use genie_host::{Host, MemoryHost};
 use genie_orderly::laws;
+use genie_playing::costs::Listing;
 use genie_replay::Status;
 use genie_script::{Judged, LineBuffer, judge_event, put_reply};
 use genie_store::MemoryStore;
@@ -42,7 +43,7 @@ fn run_by<H: Host>(machine: Machine, alloc: Global, host: &mut H) -> Status
         Machine::Flat => genie_replay::replay(alloc, host, b"s"),
         Machine::Kernel => {
             let mut store = MemoryStore::new(alloc);
-            genie_running::replay(alloc, b"s", host, &mut store).finish()
+            genie_running::replay(alloc, Listing::Replies, b"s", host, &mut store).finish()
         }
     }
 }

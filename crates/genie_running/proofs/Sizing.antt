@@ -1,9 +1,8 @@
 -- A kernel that was booted, over a store that is sized for it.
-use Rattle.std.proofs.Common.{◌≡◌, ℕ, ◌<◌, ◌≤◌, ◌^◌, List, [], refl, ap, sym, ◌∙◌, arith, subst}
-use Rattle.std.specs.Prelude.{Option, is_some}
+use Rattle.std.proofs.Common.{◌≡◌, ℕ, ◌<◌, ◌^◌, [], refl, ap, sym, ◌∙◌, arith}
+use Rattle.std.specs.Prelude.{is_some}
 use Rattle.genie_base.specs.Configs.{Fits, config_of, pool_of}
 use Rattle.genie_base.specs.declared.config.Config.{Config}
-use Rattle.genie_frame.specs.declared.frame.Meters.{Meters}
 use Rattle.genie_store.specs.StoreView.{StoreView}
 use Rattle.genie_object.specs.Costs.{AreBelow}
 use Rattle.genie_model.specs.State.{State}
@@ -33,6 +32,7 @@ booted c k v w fits good is boots meters landed count page told faults = record 
   config = is;
   boots = boots;
   fresh = fresh c k fits boots meters landed;
+  meters = meters;
   sized = record {
     count = count ∙ sym (ap (λ (q : Config). q.slots) is) ∙ sym good.sized.slots;
     page = page ∙ sym (ap (λ (q : Config). q.page) is) ∙ sym good.sized.page;

@@ -1,6 +1,6 @@
 -- What the hosts and the stores tell at the boot, and at the end.
-use Rattle.std.proofs.Common.{◌≡◌, ◌≢◌, ℕ, zero, suc, ◌+◌, ◌<◌, ◌≤◌, List, [], ◌∷◌, ◌++◌, length, map, flat_map, All, refl, sym, ap, subst, ◌∙◌, arith}
-use Rattle.std.specs.Prelude.{Option, Some, None, IsSome, IfSome, slice_set, slice_index_or, ◌==◌, true, false}
+use Rattle.std.proofs.Common.{◌≡◌, ◌≢◌, ℕ, zero, suc, ◌+◌, List, [], ◌∷◌, length, map, refl, sym, ap, ◌∙◌, arith}
+use Rattle.std.specs.Prelude.{Option, Some, None, IsSome, slice_set, ◌==◌, true, false}
 use Rattle.std.specs.Option.{option_map}
 use Rattle.std.specs.Io.KnownBytes.{Appends, Keeps}
 use Rattle.std.proofs.lemmas.Bool.Decides.{nat_tests}
@@ -22,8 +22,8 @@ use Rattle.genie_kernel.specs.Calls.{receiver}
 use Rattle.genie_kernel.specs.Devices.{device_view}
 use Rattle.genie_kernel.specs.Good.{IsGood}
 use Rattle.genie_kernel.specs.Sizes.{IsEquipped}
-use Rattle.genie_kernel.specs.Told.{told, told_at, by_number, input_at, output_at, rests_of, sents_of}
-use Rattle.genie_kernel.specs.View.{Bytes, bytes_of, bytes_with, state_of, view}
+use Rattle.genie_kernel.specs.Told.{told, told_at, by_number, input_at, output_at, rests_of}
+use Rattle.genie_kernel.specs.View.{Bytes, bytes_with, state_of, view}
 use Rattle.genie_kernel.specs.Lemmas.DeviceViews.{entry_view}
 use Rattle.genie_script.specs.declared.line.DeviceLine.{DeviceLine}
 use Rattle.genie_replay.specs.Files.{HoldsOfFile, HoldsOfInput, HoldsOfInputs, HoldsOfOutputs, IsFresh, IsFreshFor, openings_of}

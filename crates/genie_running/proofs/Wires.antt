@@ -3,7 +3,6 @@ use Rattle.std.proofs.Common.{◌≡◌, ◌≢◌, ℕ, zero, suc, ◌+◌, ◌
 use Rattle.std.specs.Prelude.{Option, Some, None, IfSome, slice_set, is_some}
 use Rattle.std.specs.Option.{option_map}
 use Rattle.std.proofs.lemmas.Bool.{cases_lt}
-use Rattle.std.proofs.lemmas.List.{length-set}
 use Rattle.std.proofs.lemmas.List.Elements.{All-nil, All-cons}
 use Rattle.genie_base.specs.Configs.{Config as FlatConfig, DeviceConfig, config_of, device_config}
 use Rattle.genie_base.specs.declared.config.DeviceConfig.{DeviceConfig as Device}

@@ -16,6 +16,7 @@ use crate::ended::Ended;
 use crate::wiring::wired;
 use genie_host::{Host, OpenRefused};
 use genie_kernel::Kernel;
+use genie_playing::costs::Listing;
 use genie_playing::play::play;
 use genie_playing::serving::{Buffers, REPLIES};
 use genie_replay::booting::{BootRead, read_boot};
@@ -30,6 +31,7 @@ fn run_started<H: Host, S: Store>(
     kernel: &mut Kernel,
     host: &mut H,
     store: &mut S,
+    listing: Listing,
     script: &mut Script,
     line: &mut LineBuffer,
     buffers: &mut Buffers,
@@ -41,7 +43,7 @@ fn run_started<H: Host, S: Store>(
     requires input { ((H.view host.old).handle 1).mode ≡ Reading }
     requires few { before ≤ 1000000 }
     ensures ready { IsReady kernel.new (H.view host.new) (S.view store.new) }
-    ensures begins { Begins result (prepend_known script.old ((H.view host.old).handle 1).bytes) step line.old before
+    ensures begins { Begins listing result (prepend_known script.old ((H.view host.old).handle 1).bytes) step line.old before
         (moment kernel.old (H.view host.old) (S.view store.old)) (moment kernel.new (H.view host.new) (S.view store.new)) }
     ensures config { kernel.new.config ≡ kernel.old.config }
     ensures leaves { Leaves result (H.view host.old) (H.view host.new) }
@@ -52,7 +54,9 @@ fn run_started<H: Host, S: Store>(
         Ok(()) => {}
         Err(_) => return Status::HostFault,
     }
-    play(kernel, host, store, script, line, buffers, step, before)
+    play(
+        kernel, host, store, listing, script, line, buffers, step, before,
+    )
 }
 
 // Boots the kernel and runs the script. The files are open.
@@ -60,6 +64,7 @@ fn run_booted<H: Host, S: Store>(
     alloc: Global,
     host: &mut H,
     store: &mut S,
+    listing: Listing,
     script: &mut Script,
     line: &mut LineBuffer,
     buffers: &mut Buffers,
@@ -73,7 +78,7 @@ fn run_booted<H: Host, S: Store>(
     requires placed { IsPlaced part.now }
     requires inputs { HoldsOfInputs (IsReading (H.view host.old)) 1 part.now.devices }
     requires outputs { HoldsOfOutputs (IsWriting (H.view host.old)) 1 part.now.devices }
-    ensures runs { RunsBooted part.now (prepend_known script.old ((H.view host.old).handle 1).bytes) step line.old before
+    ensures runs { RunsBooted listing part.now (prepend_known script.old ((H.view host.old).handle 1).bytes) step line.old before
         result.status result.kernel (H.view host.old) (H.view host.new) (S.view store.old) (S.view store.new) }
     ensures kernel { HandsBack result.kernel (H.view host.new) (S.view store.new) }
     ensures fault { result.status ≡ Status.HostFault →
@@ -87,6 +92,7 @@ fn run_booted<H: Host, S: Store>(
                 &mut kernel,
                 host,
                 store,
+                listing,
                 script,
                 line,
                 buffers,
@@ -103,15 +109,21 @@ fn run_booted<H: Host, S: Store>(
     }
 }
 
-/// Replays the script of this name by a kernel over the store. The replies go to handle 0 of the host, and what each device
-/// sends to the output that the script names for it.
-pub fn replay<H: Host, S: Store>(alloc: Global, name: &[u8], host: &mut H, store: &mut S) -> Ended
+/// Replays the script of this name by a kernel over the store. The replies, and what each event cost where that is listed, go
+/// to handle 0 of the host, and what each device sends to the output that the script names for it.
+pub fn replay<H: Host, S: Store>(
+    alloc: Global,
+    listing: Listing,
+    name: &[u8],
+    host: &mut H,
+    store: &mut S,
+) -> Ended
     requires closed { (H.view host.old).opened ≡ 0 }
     requires empty { (S.view store.old).count ≡ 0 }
 
     // The replies and the outputs are the flat machine's, but for lines that say that a device or the store failed, each of
-    // which was counted; and the run ends as the script does.
-    ensures outcome { OutcomeOf name.now ((H.view host.old).names name.now) result.status result.kernel
+    // which was counted; the costs add up to what the kernel's meters show; and the run ends as the script does.
+    ensures outcome { OutcomeOf listing name.now ((H.view host.old).names name.now) result.status result.kernel
         (H.view host.old) (H.view host.new) (S.view store.old) (S.view store.new) }
 
     // Whatever is told: a kernel that was booted is good, and is there exactly where the store was sized.
@@ -152,6 +164,7 @@ pub fn replay<H: Host, S: Store>(alloc: Global, name: &[u8], host: &mut H, store
             alloc,
             host,
             store,
+            listing,
             &mut script,
             &mut line,
             &mut buffers,

@@ -4,8 +4,9 @@ ghost use Rattle.std.specs.Prelude.{◌≡◌, [], IfOk, OnOk};
 use crate::replay;
 use genie_base::NoMemory;
 use genie_host::MemoryHost;
+use genie_playing::costs::Listing;
 use genie_replay::Status;
-use genie_store::{MemoryStore, Store};
+use genie_store::{FailingStore, MemoryStore, Store};
 use std::alloc::Global;
 use std::test::Fail;
 
@@ -64,7 +65,7 @@ fn ends<S: Store>(alloc: Global, host: &mut MemoryHost, store: &mut S) -> (Statu
     requires closed { host.old.opened ≡ [] }
     requires empty { (S.view store.old).count ≡ 0 }
 {
-    let mut ended = replay(alloc, b"s", host, store);
+    let mut ended = replay(alloc, Listing::Replies, b"s", host, store);
     let status = ended.finish();
     (status, ended.kernel.is_some())
 }
@@ -164,5 +165,21 @@ fn scripts_run_so(rt: HostRuntime) -> Result<(), Fail> {
     for (number, row) in rows().iter().enumerate() {
         assert_eq!(rt; (number, runs_so(rt.alloc(), row)?), (number, true));
     }
+    Ok(())
+}
+
+const PAGED: &[u8] =
+    b"boot 16 32 64 16 8\nspawn 0\nmap 0 0 4\nwrite 0 0 aabb\npageout 1\npageout 1\nread 0 0 2\nread 0 0 2\n";
+
+#[test]
+fn a_store_fails_twice(rt: HostRuntime) -> Result<(), Fail> {
+    let mut host = host_with(rt.alloc(), PAGED, Trouble::Nothing)?;
+    let mut store = FailingStore::new(rt.alloc(), &[1, 3])?;
+    assert_eq!(rt;
+        ends(rt.alloc(), &mut host, &mut store),
+        (Status::Done, true)
+    );
+    let replies = b"ok\nok\nok\nok\nfault store\nok\nfault store\ndata aabb\n";
+    assert!(rt; is_written(&host, b"", replies));
     Ok(())
 }

@@ -1,17 +1,15 @@
 -- What a kernel stands for stays where its own handles and the store stay.
-use Rattle.std.proofs.Common.{◌≡◌, ◌≢◌, ℕ, List, [], ◌∷◌, ◌++◌, map, flat_map, All, refl, sym, ap, ◌∙◌, ⊎_elim}
+use Rattle.std.proofs.Common.{◌≡◌, ◌≢◌, ℕ, List, [], ◌∷◌, ◌++◌, map, flat_map, All, refl, ap}
 use Rattle.std.specs.Prelude.{Option, Some, None}
-use Rattle.std.specs.Option.{option_map}
 use Rattle.std.proofs.lemmas.List.Elements.{All-nil, All-cons, All-head, All-tail}
 use Rattle.genie_base.specs.declared.config.Config.{Config}
 use Rattle.genie_base.specs.declared.config.DeviceConfig.{DeviceConfig}
 use Rattle.genie_host.specs.Host.{HostView, HandleState}
 use Rattle.genie_store.specs.StoreView.{StoreView}
-use Rattle.genie_object.specs.Memory.{seen_with}
 use Rattle.genie_kernel.specs.declared.kernel.Kernel.{Kernel}
 use Rattle.genie_kernel.specs.Handles.{handles, handles_of, listed}
-use Rattle.genie_kernel.specs.Told.{told, told_at, by_number, input_at, output_at}
-use Rattle.genie_kernel.specs.View.{bytes_with, state_of, view}
+use Rattle.genie_kernel.specs.Told.{told, told_at, input_at, output_at}
+use Rattle.genie_kernel.specs.View.{view}
 use Rattle.genie_playing.specs.Moments.{Between, Moment, shown}
 
 all_left : {X : Type 0} (P : X → Type 0) (xs ys : List X) → All P (xs ++ ys) → All P xs
