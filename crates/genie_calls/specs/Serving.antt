@@ -1,9 +1,9 @@
 -- What an event leaves of the kernel, the host and the store, and what it may answer.
-use Rattle.std.specs.Prelude.{◌≡◌, ℕ, ◌+◌, ◌^◌, ◌≤◌, Bool, true, false}
+use Rattle.std.specs.Prelude.{◌≡◌, ℕ, ◌+◌, ◌^◌, ◌≤◌, Bool, true, false, ⊤}
 use Rattle.genie_base.specs.Events.{mark_of}
 use Rattle.genie_base.specs.declared.config.Config.{Config}
 use Rattle.genie_base.specs.declared.event.Event.{Event}
-use Rattle.genie_base.specs.declared.event.Event.TheVariants.{Send, Recv}
+use Rattle.genie_base.specs.declared.event.Event.TheVariants.{Send, Recv, Fork, Input, Finish}
 use Rattle.genie_base.specs.declared.reply.Mark.{Mark}
 use Rattle.genie_base.specs.declared.reply.Mark.TheVariants.{NoFault}
 use Rattle.genie_base.specs.declared.reply.Reply.{Reply}
@@ -21,6 +21,7 @@ use Rattle.genie_kernel.specs.Rising.{MetersRise}
 use Rattle.genie_kernel.specs.Steps.{StepsTold, DeviceCause, StoreCause}
 use Rattle.genie_kernel.specs.Told.{input_at, output_at}
 use Rattle.genie_kernel.specs.View.{view}
+use Rattle.genie_copying.specs.Bounds.{KeepsToBound}
 use Rattle.genie_changes.specs.Paged.{IsPaged}
 
 -- what outside the kernel an event may touch: nothing, the store, or the handle of a device
@@ -61,9 +62,16 @@ Touches Nothing mark old new v w = TouchesNothing mark old new v w
 Touches TheStore mark old new v w = TouchesStore mark old new v w
 Touches (TheHandle h) mark old new v w = TouchesHandle h mark old new v w
 
+-- the table of copying bounds these events: all but a fork, an input call and a `done`
+abbrev pub IsTabled : Event → Type 0
+IsTabled (Fork p child) = ⊥
+IsTabled (Input p sem d port flow a n) = ⊥
+IsTabled (Finish id) = ⊥
+IsTabled e = ⊤
+
 -- the kernel is good over a store of its size, and keeps what is lent and its configuration; what it stands for and the
 -- reply are those of the flat machine's step; a failure has its cause, and the handles stay open; one number at most is given
--- out, and the meters rise by so much at most
+-- out; the meters rise by so much at most, and no more is copied than the table allows
 pub record Served (old new : Kernel) (e : Event) (before after : HostView) (v w : StoreView) (reply : Reply) : Type 0 where
   pub good : IsGood new
   pub sized : IsSized new.memory w
@@ -75,6 +83,7 @@ pub record Served (old new : Kernel) (e : Event) (before after : HostView) (v w 
   pub handles : HasHandles new.config after
   pub others : KeepsOthers old.config before after
   pub rises : MetersRise (2 ^ 36) old.memory.frames new.memory.frames
+  pub copying : IsTabled e → KeepsToBound old e new reply
 
 -- so it is of an event that touches neither the host nor the store, whatever they are
 abbrev pub ServedAlone : Kernel → Event → Kernel → Reply → Type 0

@@ -1,5 +1,5 @@
 //! One event.
-ghost use Rattle.std.specs.Prelude.{◌≡◌, ◌+◌, ◌-◌, ◌^◌, ◌<◌, ◌≤◌, None, IsTrue};
+ghost use Rattle.std.specs.Prelude.{◌≡◌, ◌+◌, ◌-◌, ◌^◌, ◌<◌, ◌≤◌, None, IsSome, IsTrue};
 ghost use Rattle.genie_base.specs.Events.{is_whole, mark_of};
 ghost use Rattle.genie_object.specs.Costs.{AreBelow};
 ghost use Rattle.genie_object.specs.Sound.{IsSized};
@@ -10,7 +10,8 @@ ghost use Rattle.genie_kernel.specs.Kept.{Kept};
 ghost use Rattle.genie_kernel.specs.Rising.{MetersRise};
 ghost use Rattle.genie_kernel.specs.Steps.{StepsTold};
 ghost use Rattle.genie_kernel.specs.View.{outline, view};
-ghost use Rattle.genie_calls.specs.Serving.{Served, Touches, touched_by};
+ghost use Rattle.genie_copying.specs.Bounds.{KeepsToBound};
+ghost use Rattle.genie_calls.specs.Serving.{IsTabled, Served, Touches, touched_by};
 
 use crate::access::{pageout, read, write};
 use crate::devices::{recv, send};
@@ -96,7 +97,8 @@ fn serve<'a, H: Host, S: Store>(
     requires numbered { kernel.old.next < 2 ^ 32 - 1 }
     requires handles { HasHandles kernel.old.config (H.view host.old) }
     requires whole { IsTrue (is_whole event.now) }
-    ensures { Served kernel.old kernel.new event.now (H.view host.old) (H.view host.new) (S.view store.old) (S.view store.new) result }
+    ensures refused { IsSome (refuse (outline kernel.old) event.now) → kernel.new ≡ kernel.old }
+    ensures served { Served kernel.old kernel.new event.now (H.view host.old) (H.view host.new) (S.view store.old) (S.view store.new) result }
 {
     match refuse(kernel, event) {
         Some(refusal) => Reply::Err(refusal),
@@ -146,6 +148,10 @@ pub fn step<'a, H: Host, S: Store>(
 
     // So much at most is counted in one step: over a million steps from a boot the meters have room.
     ensures rises { MetersRise (2 ^ 36) kernel.old.memory.frames kernel.new.memory.frames }
+
+    // A refusal changes nothing, and what the processor copies keeps to the table.
+    ensures refused { IsSome (refuse (outline kernel.old) event.now) → kernel.new ≡ kernel.old }
+    ensures copying { IsTabled event.now → KeepsToBound kernel.old event.now kernel.new result }
 {
     serve(kernel, host, store, event, into)
 }

@@ -1,5 +1,5 @@
 -- A kernel that is stepped event by event, over a host and a store.
-use Rattle.std.specs.Prelude.{◌≡◌, ◌≢◌, ℕ, ◌+◌, ◌-◌, ◌^◌, ◌<◌, ◌≤◌, List, [], ◌∷◌, All, Option, None, Some, ⊤}
+use Rattle.std.specs.Prelude.{◌≡◌, ◌≢◌, ℕ, ◌+◌, ◌-◌, ◌^◌, ◌<◌, ◌≤◌, List, [], ◌∷◌, All, Option, None, Some, IsSome, ⊤}
 use Rattle.genie_base.specs.Events.{mark_of}
 use Rattle.genie_base.specs.declared.event.Event.{Event}
 use Rattle.genie_base.specs.declared.reply.Reply.{Reply}
@@ -8,6 +8,7 @@ use Rattle.genie_host.specs.Host.{HostView}
 use Rattle.genie_store.specs.StoreView.{StoreView}
 use Rattle.genie_object.specs.Costs.{AreBelow}
 use Rattle.genie_object.specs.Sound.{IsSized}
+use Rattle.genie_model.specs.Refusing.{refuse}
 use Rattle.genie_model.specs.State.{State}
 use Rattle.genie_model.specs.Step.{Follows}
 use Rattle.genie_kernel.specs.declared.kernel.Kernel.{Kernel}
@@ -16,8 +17,9 @@ use Rattle.genie_kernel.specs.Handles.{HasHandles, KeepsOthers, handles}
 use Rattle.genie_kernel.specs.Kept.{Kept}
 use Rattle.genie_kernel.specs.Rising.{MetersRise}
 use Rattle.genie_kernel.specs.Steps.{StepsTold}
-use Rattle.genie_kernel.specs.View.{view}
-use Rattle.genie_calls.specs.Serving.{Touches, touched_by}
+use Rattle.genie_kernel.specs.View.{outline, view}
+use Rattle.genie_copying.specs.Bounds.{KeepsToBound}
+use Rattle.genie_calls.specs.Serving.{IsTabled, Touches, touched_by}
 use Rattle.genie_replay.specs.Plays.{LaterFaults, OnlyRun}
 use Rattle.genie_playing.specs.Costs.{Answer, raise}
 
@@ -59,7 +61,8 @@ pub record HasRoom (k : Kernel) : Type 0 where
   pub numbers : k.next < 2 ^ 32 - 1
 
 -- One event is stepped: where bytes are told, as the flat machine steps it. A failure is answered only where the count of
--- the device's handle, or of the store, rose in this step, and no other handle changes. No frame is freed or gets another owner while a device holds it.
+-- the device's handle, or of the store, rose in this step, and no other handle changes. No frame is freed or gets another
+-- owner while a device holds it. A refusal leaves the kernel as it is, and what the processor copies keeps to the table.
 pub record Serves (old : Moment) (e : Event) (reply : Reply) (new : Moment) : Type 0 where
   pub step : StepsTold (shown old) e (shown new) reply
   pub cause : Touches (touched_by old.kernel.config e) (mark_of reply) old.host new.host old.store new.store
@@ -68,6 +71,8 @@ pub record Serves (old : Moment) (e : Event) (reply : Reply) (new : Moment) : Ty
   pub config : new.kernel.config ≡ old.kernel.config
   pub rises : MetersRise (2 ^ 36) old.kernel.memory.frames new.kernel.memory.frames
   pub numbers : new.kernel.next ≤ old.kernel.next + 1
+  pub refused : IsSome (refuse (outline old.kernel) e) → new.kernel ≡ old.kernel
+  pub copying : IsTabled e → KeepsToBound old.kernel e new.kernel reply
 
 -- and this is how far the meters rose in it
 pub record StepsTo (old : Moment) (e : Event) (a : Answer) (new : Moment) : Type 0 where

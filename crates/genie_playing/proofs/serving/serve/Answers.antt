@@ -34,6 +34,8 @@ returns-in-Err-clause-answers g c = record {
       config = c.step-reply.ensures.config;
       rises = c.step-reply.ensures.rises;
       numbers = c.step-reply.ensures.numbers;
+      refused = c.step-reply.ensures.refused;
+      copying = c.step-reply.ensures.copying;
     };
     cost = rw (c.meters-before.ensures, c.meters.ensures) at c.raise-cost.ensures;
   };
