@@ -10,7 +10,7 @@ use Rattle.genie_runs.specs.Alike.{SameButThresholds, ScriptsRunAlike}
 use Rattle.genie_replay.specs.Inputs.{AreTold, AreToldAlike, IsTold, IsToldAlike, inputs_from, told_by, with_file}
 use Rattle.genie_replay.specs.Outcome.{events_of}
 
-other_boot : (c d : Config) (inputs : ℕ → List ℕ) → SameButThresholds c d → boot d inputs ≡ with_thresholds d.copy_out d.reverse_copy_out (boot c inputs)
+pub other_boot : (c d : Config) (inputs : ℕ → List ℕ) → SameButThresholds c d → boot d inputs ≡ with_thresholds d.copy_out d.reverse_copy_out (boot c inputs)
 other_boot c d inputs same = ap (λ (x : Config). boot x inputs) same
 
 -- the other host tells the inputs too
@@ -27,7 +27,7 @@ same_file : (names others : List ℕ → Option (List ℕ)) (inputs : ℕ → Li
 same_file names others inputs number None alike = refl
 same_file names others inputs number (Some name) alike = ap {B = ℕ → List ℕ} (λ (told : Option (List ℕ)) (k : ℕ). if k == number then told_by told else inputs k) alike
 
-same_inputs : (names others : List ℕ → Option (List ℕ)) (inputs : ℕ → List ℕ) (ds : List DeviceLine) → AreToldAlike names others ds → inputs_from others inputs ds ≡ inputs_from names inputs ds
+pub same_inputs : (names others : List ℕ → Option (List ℕ)) (inputs : ℕ → List ℕ) (ds : List DeviceLine) → AreToldAlike names others ds → inputs_from others inputs ds ≡ inputs_from names inputs ds
 same_inputs names others inputs [] alike = refl
 same_inputs names others inputs (d ∷ ds) alike = ap (λ f. inputs_from others f ds) (same_file names others inputs d.number d.input alike.0) ∙ same_inputs names others (with_file names inputs d.number d.input) ds alike.1
 
