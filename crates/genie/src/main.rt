@@ -10,8 +10,8 @@ use genie_replay::{Status, put_status};
 use genie_script::LineBuffer;
 use genie_store::MemoryStore;
 use std::alloc::{AllocError, Global};
-use std::env;
 use std::process::ExitCode;
+use std::{env, io};
 
 // The text of a status, as a line on standard error: none for `Done`.
 fn report(rt: &impl Eprint, status: &Status) {
@@ -48,9 +48,17 @@ fn serve_files(rt: &HostRuntime, words: &[String]) -> Status {
     }
 }
 
+// Why the words couldn't be read: memory ran out, or one of them isn't text, and so no word of a command.
+fn unread(error: &io::Error) -> Status {
+    match error.kind() {
+        io::ErrorKind::OutOfMemory => Status::NoMemory,
+        _ => Status::Usage,
+    }
+}
+
 fn main(rt: HostRuntime) -> ExitCode {
     let status = match env::args(&rt) {
-        Err(_) => Status::Usage,
+        Err(error) => unread(&error),
         Ok(args) => match args.skip(1).collect::<Vec<String>>(rt.alloc()) {
             Err(AllocError) => Status::NoMemory,
             Ok(words) => serve_files(&rt, words.as_slice()),
