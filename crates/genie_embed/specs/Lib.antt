@@ -1,2 +1,4 @@
+pub mod Echo
+pub mod Machines
 pub mod Packets
 pub mod Worn

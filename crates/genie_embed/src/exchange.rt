@@ -1,16 +1,16 @@
-//! A datagram that is received and sent again, over any host.
-ghost use Rattle.std.specs.Prelude.{◌≡◌, ◌⊎◌, Err, IsTrue, IfOk};
-ghost use Rattle.genie_base.specs.Configs.{config_of, Fits};
-ghost use Rattle.genie_base.specs.Events.{is_whole};
+//! A datagram that is received and sent again, by a kernel over any host and any store.
+ghost use Rattle.std.specs.Prelude.{◌≡◌, ◌⊎◌, ◌+◌, ℕ, Err, IsTrue, OnOk, All, length};
 ghost use Rattle.genie_base.specs.Causes.{Rose};
+ghost use Rattle.genie_base.specs.Configs.{config_of, Fits};
 ghost use Rattle.genie_host.specs.Host.{Reading, Writing};
+ghost use Rattle.genie_embed.specs.Echo.{IsCounted, echo_config, is_ours};
+ghost use Rattle.genie_embed.specs.Machines.{HasRoomFor, IsOver};
 
 use crate::machine::{Machine, Stopped};
 use crate::packets::{RECEIVED, SENT};
-use genie_base::{
-    Config, DeviceConfig, Direction, Event, Kind, NoMemory, PageBuffer, Reply, Semantics,
-};
-use genie_host::{Failed, Host};
+use genie_base::{Config, DeviceConfig, Direction, Event, Kind, PageBuffer, Reply, Semantics};
+use genie_host::Host;
+use genie_store::{Store, StoreRefused};
 use std::alloc::Global;
 use thiserror::Error;
 
@@ -25,14 +25,17 @@ pub enum EchoError {
     /// A read or a write failed.
     #[error("the host failed")]
     Host,
-    /// No byte came for port 5.
-    #[error("nothing came")]
+    #[error("the store failed")]
+    Store,
+    /// No byte came for port 5, or the host took only a part of the record.
+    #[error("nothing was sent")]
     Nothing,
 }
 
 /// Pages of 16 bytes, 32 frames, and one early device, whose handles are those of the host.
 pub fn config() -> Config
-    ensures { Fits (config_of result) }
+    ensures fits { Fits (config_of result) }
+    ensures is { result ≡ echo_config }
 {
     let device = DeviceConfig {
         kind: Kind::Early,
@@ -53,7 +56,7 @@ pub fn config() -> Config
 
 // An input or an output of process 0 by emulated copy, at port 5.
 fn call(direction: Direction, len: u32) -> Event<'static>
-    ensures { IsTrue (is_whole result) }
+    ensures { IsTrue (is_ours result) }
 {
     match direction {
         Direction::Inward => Event::Input {
@@ -77,66 +80,113 @@ fn call(direction: Direction, len: u32) -> Event<'static>
     }
 }
 
-// Steps an event. Answers how many bytes an input has got, and 0 for every other reply.
-fn step(machine: &mut Machine, event: &Event) -> Result<u32, Stopped>
-    requires { IsTrue (is_whole event.now) }
+// Steps an event. Answers how many bytes a transfer moved that ended, and 0 for every other reply.
+fn step<H: Host, S: Store>(
+    machine: &mut Machine,
+    host: &mut H,
+    store: &mut S,
+    event: &Event<'_>,
+) -> Result<u32, EchoError>
+    requires over { IsOver machine.old (H.view host.old) (S.view store.old) }
+    requires config { machine.old.config ≡ echo_config }
+    requires ours { IsTrue (is_ours event.now) }
+    requires room { HasRoomFor 1 machine.old }
+    ensures over { IsOver machine.new (H.view host.new) (S.view store.new) }
+    ensures config { machine.new.config ≡ echo_config }
+    ensures room { (n : ℕ) → HasRoomFor (n + 1) machine.old → HasRoomFor n machine.new }
+    ensures counted { IsCounted (H.view host.old) (H.view host.new) (S.view store.old) (S.view store.new) result }
 {
     let mut room = PageBuffer::new();
-    match machine.step(event, &mut room) {
+    match machine.step(host, store, event, &mut room) {
         Ok(Reply::Input { n, .. }) => Ok(n),
+        Ok(Reply::Output { n }) => Ok(n),
+        Ok(Reply::Fault { .. }) => Err(EchoError::Host),
+        Ok(Reply::StoreFault) => Err(EchoError::Store),
         Ok(_) => Ok(0),
-        Err(stopped) => Err(stopped),
+        Err(Stopped) => unreachable!(),
     }
 }
 
-// Steps a machine so that it receives a datagram and sends it again.
-fn serve(machine: &mut Machine) -> Result<(), Stopped> {
-    let map = Event::Map {
-        pid: 0,
-        page: 0,
-        pages: 1,
-    };
-    step(machine, &Event::Spawn { pid: 0 })?;
-    step(machine, &map)?;
-    step(machine, &call(Direction::Inward, LEN))?;
-    step(machine, &Event::Recv { dev: 0, len: 65536 })?;
-    let received = step(machine, &Event::Finish { id: 1 })?;
-    if received > 0 {
-        step(machine, &call(Direction::Outward, received))?;
-        step(machine, &Event::Send { dev: 0, len: 65536 })?;
-        step(machine, &Event::Finish { id: 2 })?;
+// Steps events, and answers for the last one.
+fn step_all<H: Host, S: Store>(
+    machine: &mut Machine,
+    host: &mut H,
+    store: &mut S,
+    events: &[Event<'_>],
+    last: u32,
+) -> Result<u32, EchoError>
+    requires over { IsOver machine.old (H.view host.old) (S.view store.old) }
+    requires config { machine.old.config ≡ echo_config }
+    requires ours { All (λ e. IsTrue (is_ours e)) events.now }
+    requires room { HasRoomFor (length events.now) machine.old }
+    ensures over { IsOver machine.new (H.view host.new) (S.view store.new) }
+    ensures config { machine.new.config ≡ echo_config }
+    ensures room { OnOk result ((n : ℕ) → HasRoomFor (n + length events.now) machine.old → HasRoomFor n machine.new) }
+    ensures counted { IsCounted (H.view host.old) (H.view host.new) (S.view store.old) (S.view store.new) result }
+{
+    match events.split_first() {
+        None => Ok(last),
+        Some((event, rest)) => {
+            let n = step(machine, host, store, event)?;
+            step_all(machine, host, store, rest, n)
+        }
     }
-    Ok(())
 }
 
-/// Reads what came, at most 4,096 bytes at once, receives the first datagram for port 5, and sends it again. Answers how
-/// many bytes of the record the host took. `Host` comes only where a count of faults rose.
-pub fn echo<H: Host>(alloc: Global, host: &mut H) -> Result<usize, EchoError>
+// Steps a machine so that it receives a datagram and sends it again. Answers how many bytes of payload were sent.
+fn serve<H: Host, S: Store>(
+    machine: &mut Machine,
+    host: &mut H,
+    store: &mut S,
+) -> Result<u32, EchoError>
+    requires over { IsOver machine.old (H.view host.old) (S.view store.old) }
+    requires config { machine.old.config ≡ echo_config }
+    requires room { HasRoomFor 8 machine.old }
+    ensures counted { IsCounted (H.view host.old) (H.view host.new) (S.view store.old) (S.view store.new) result }
+{
+    let receiving = [
+        Event::Spawn { pid: 0 },
+        Event::Map {
+            pid: 0,
+            page: 0,
+            pages: 1,
+        },
+        call(Direction::Inward, LEN),
+        Event::Recv { dev: 0, len: 65536 },
+        Event::Finish { id: 1 },
+    ];
+    let received = step_all(machine, host, store, &receiving, 0)?;
+    if received == 0 {
+        return Err(EchoError::Nothing);
+    }
+    let sending = [
+        call(Direction::Outward, received),
+        Event::Send { dev: 0, len: 65536 },
+        Event::Finish { id: 2 },
+    ];
+    step_all(machine, host, store, &sending, 0)
+}
+
+/// Receives the first datagram for port 5, at most its first 16 bytes, and sends it again. Answers how many bytes of payload
+/// were sent. `Host` and `Store` come only where a count of faults rose.
+pub fn echo<H: Host, S: Store>(alloc: Global, host: &mut H, store: &mut S) -> Result<u32, EchoError>
     requires received { ((H.view host.old).handle 1).mode ≡ Reading }
     requires sent { ((H.view host.old).handle 2).mode ≡ Writing }
+    requires empty { (S.view store.old).count ≡ 0 }
     ensures fault { result ≡ Err EchoError.Host →
         Rose ((H.view host.old).handle 1).faults ((H.view host.new).handle 1).faults
         ⊎ Rose ((H.view host.old).handle 2).faults ((H.view host.new).handle 2).faults }
+    ensures store { result ≡ Err EchoError.Store → Rose (S.view store.old).faults (S.view store.new).faults }
 {
-    let mut came = [0; 4096];
-    let count = match host.read(RECEIVED, &mut came) {
-        Ok(count) => count,
-        Err(Failed) => return Err(EchoError::Host),
-    };
-    let mut machine = match Machine::boot(alloc, &config(), &came[..count]) {
+    let mut machine = match Machine::boot(alloc, &config(), store) {
         Ok(machine) => machine,
-        Err(NoMemory) => return Err(EchoError::Memory),
+        Err(StoreRefused::Memory) => return Err(EchoError::Memory),
+        Err(StoreRefused::Failed) => return Err(EchoError::Store),
     };
-    match serve(&mut machine) {
-        Ok(()) => {}
-        Err(_) => return Err(EchoError::Memory),
-    }
-    let record = machine.sent(0);
-    if record.is_empty() {
+    let sent = serve(&mut machine, host, store)?;
+    machine.close();
+    if sent == 0 {
         return Err(EchoError::Nothing);
     }
-    match host.write(SENT, record) {
-        Ok(count) => Ok(count),
-        Err(Failed) => Err(EchoError::Host),
-    }
+    Ok(sent)
 }

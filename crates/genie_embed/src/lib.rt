@@ -1,4 +1,4 @@
-//! A quick start for those who embed the library: a host and a store of their own, a machine that is stepped by events
+//! A quick start for those who embed the library: a host and a store of their own, a kernel that is stepped by events
 //! and reads no script, and a frame that is lent to a device.
 #![tactic(auto)]
 
@@ -12,7 +12,7 @@ mod tests;
 pub mod worn;
 
 pub use crate::exchange::{EchoError, echo};
-pub use crate::guide::{lend_three, send_again, send_two};
+pub use crate::guide::{close_early, lend_three, send_again, send_two};
 pub use crate::lending::send_page;
 pub use crate::machine::{Machine, Stopped};
 pub use crate::packets::{PacketHost, RECEIVED, SENT};
