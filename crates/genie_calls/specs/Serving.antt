@@ -1,6 +1,7 @@
 -- What an event leaves of the kernel, the host and the store, and what it may answer.
-use Rattle.std.specs.Prelude.{◌≡◌, ℕ, ◌+◌, ◌^◌, ◌≤◌, Bool, true, false, ⊤}
+use Rattle.std.specs.Prelude.{◌≡◌, ℕ, ◌+◌, ◌^◌, ◌≤◌, Bool, true, false, IsTrue, ⊤}
 use Rattle.genie_base.specs.Events.{mark_of}
+use Rattle.genie_base.specs.Transfers.{class_of, is_strong}
 use Rattle.genie_base.specs.declared.config.Config.{Config}
 use Rattle.genie_base.specs.declared.event.Event.{Event}
 use Rattle.genie_base.specs.declared.event.Event.TheVariants.{Send, Recv, Fork, Input, Finish}
@@ -62,10 +63,10 @@ Touches Nothing mark old new v w = TouchesNothing mark old new v w
 Touches TheStore mark old new v w = TouchesStore mark old new v w
 Touches (TheHandle h) mark old new v w = TouchesHandle h mark old new v w
 
--- the table of copying bounds these events: all but a fork, an input call and a `done`
+-- the table of copying bounds these events: all but a fork, a `done`, and an input by share or weak move
 abbrev pub IsTabled : Event → Type 0
 IsTabled (Fork p child) = ⊥
-IsTabled (Input p sem d port flow a n) = ⊥
+IsTabled (Input p sem d port flow a n) = IsTrue (is_strong (class_of sem))
 IsTabled (Finish id) = ⊥
 IsTabled e = ⊤
 

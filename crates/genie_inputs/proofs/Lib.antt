@@ -10,6 +10,7 @@ mod HiddenAgain
 mod Holding
 mod Lending
 mod MovedIn
+mod Moving
 mod Placing
 mod Readied
 mod Refilling

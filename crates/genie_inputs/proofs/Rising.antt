@@ -1,10 +1,10 @@
 -- How far an input call lets the meters rise.
-use Rattle.std.proofs.Common.{◌≡◌, ℕ, ◌+◌, ◌^◌, ◌≤◌, Bool, true, false, List, sym, ap, subst, arith, ◌∙◌, length}
+use Rattle.std.proofs.Common.{◌≡◌, ℕ, ◌^◌, ◌≤◌, Bool, true, false, List, sym, ap, subst, arith, ◌∙◌, length}
 use Rattle.genie_base.specs.Counts.{span}
 use Rattle.genie_frame.specs.declared.frame.Meters.{Meters}
 use Rattle.genie_frame.specs.FrameTable.{FrameTable}
 use Rattle.genie_object.specs.declared.memory.Memory.{Memory}
-use Rattle.genie_object.specs.Costs.{AreBelow, Spends, writes_work}
+use Rattle.genie_object.specs.Costs.{Spends, writes_work}
 use Rattle.genie_object.specs.Sound.{IsSound}
 use Rattle.genie_object.specs.Lemmas.Works.{page_most, writes_most}
 use Rattle.genie_store.specs.StoreView.{StoreView}

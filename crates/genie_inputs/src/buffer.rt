@@ -10,6 +10,7 @@ ghost use Rattle.genie_model.specs.Tables.{entry};
 ghost use Rattle.genie_kernel.specs.Good.{IsGood};
 ghost use Rattle.genie_kernel.specs.Planned.{is_early_device};
 ghost use Rattle.genie_kernel.specs.Rising.{MetersRise};
+ghost use Rattle.genie_copying.specs.Spending.{CopiesAtMost};
 ghost use Rattle.genie_inputs.specs.Buffers.{LendsBuffer, LendsStrong, frames_for, is_early_place};
 ghost use Rattle.genie_changes.specs.Making.{IsMoved};
 
@@ -76,6 +77,7 @@ pub(crate) fn lend_strongly<S: Store>(
     ensures moved { OnErr result (IsMoved kernel.old kernel.new (S.view store.old) (S.view store.new)) }
     ensures cause { HasCause (S.view store.old).faults (S.view store.new).faults result }
     ensures rises { MetersRise (2 ^ 20) kernel.old.memory.frames kernel.new.memory.frames }
+    ensures copying { CopiesAtMost 0 kernel.old.memory kernel.new.memory }
 {
     let page = kernel.spaces.page().get();
     let early = is_early_at(&kernel.config, dev);

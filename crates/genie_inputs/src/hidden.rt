@@ -9,6 +9,7 @@ ghost use Rattle.genie_model.specs.Refusing.{refuse};
 ghost use Rattle.genie_kernel.specs.Good.{IsGood};
 ghost use Rattle.genie_kernel.specs.Rising.{MetersRise};
 ghost use Rattle.genie_kernel.specs.View.{outline};
+ghost use Rattle.genie_copying.specs.Spending.{CopiesAtMost};
 ghost use Rattle.genie_inputs.specs.Calls.{input_event};
 ghost use Rattle.genie_inputs.specs.HiddenReuse.{oldest_hidden, may_reuse, HoldsBuffer, ReusesFrames, TakesHidden};
 ghost use Rattle.genie_inputs.specs.Placing.{IsPlace};
@@ -52,6 +53,7 @@ fn take_hidden(kernel: &mut Kernel, id: TransferId, call: Call, place: Placement
     ensures none { result ≡ None → may_reuse kernel.old call ≡ true → oldest_hidden call.pid place.start place.pages kernel.old.hidden ≡ None }
     ensures unchanged { result ≡ None → kernel.new ≡ kernel.old }
     ensures rises { IfSome result (λ _. MetersRise (2 ^ 20) kernel.old.memory.frames kernel.new.memory.frames) }
+    ensures copying { IfSome result (λ _. CopiesAtMost 0 kernel.old.memory kernel.new.memory) }
 {
     if !may_reuse(kernel, call) {
         return None;
@@ -83,6 +85,7 @@ fn lend_anew<S: Store>(
     ensures ready { OnErr result (IsReady kernel.old kernel.new (S.view store.old) (S.view store.new)) }
     ensures cause { HasCause (S.view store.old).faults (S.view store.new).faults result }
     ensures rises { MetersRise (2 ^ 20) kernel.old.memory.frames kernel.new.memory.frames }
+    ensures copying { CopiesAtMost 0 kernel.old.memory kernel.new.memory }
 {
     input_laws();
     make_room(kernel, call.pid);
@@ -109,6 +112,7 @@ pub(crate) fn lend_held<S: Store>(
     ensures ready { OnErr result (IsReady kernel.old kernel.new (S.view store.old) (S.view store.new)) }
     ensures cause { HasCause (S.view store.old).faults (S.view store.new).faults result }
     ensures rises { MetersRise (2 ^ 20) kernel.old.memory.frames kernel.new.memory.frames }
+    ensures copying { CopiesAtMost 0 kernel.old.memory kernel.new.memory }
 {
     memory_moves();
     hidden_regions_go();

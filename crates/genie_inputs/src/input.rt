@@ -1,7 +1,7 @@
 //! Any input call.
 ghost use Rattle.std.specs.Prelude.{◌≡◌, ◌+◌, ◌-◌, ◌^◌, ◌<◌, ◌≤◌, IsTrue, None, Some};
 ghost use Rattle.genie_base.specs.Events.{is_whole, mark_of};
-ghost use Rattle.genie_base.specs.Transfers.{class_of};
+ghost use Rattle.genie_base.specs.Transfers.{class_of, is_strong};
 ghost use Rattle.genie_base.specs.declared.event.Event.TheVariants as event;
 ghost use Rattle.genie_base.specs.declared.semantics.Class.TheVariants.{WeakMove};
 ghost use Rattle.genie_host.specs.Host.{HostView};
@@ -13,6 +13,7 @@ ghost use Rattle.genie_kernel.specs.Kept.{Kept};
 ghost use Rattle.genie_kernel.specs.Rising.{MetersRise};
 ghost use Rattle.genie_kernel.specs.Steps.{StepsTold, StoreCause};
 ghost use Rattle.genie_kernel.specs.View.{outline, view};
+ghost use Rattle.genie_copying.specs.Spending.{CopiesAtMost};
 ghost use Rattle.genie_inputs.specs.Calls.{input_event};
 ghost use Rattle.genie_inputs.specs.HiddenReuse.{ReusesHidden};
 ghost use Rattle.genie_inputs.specs.Posting.{IsAnswered};
@@ -39,6 +40,7 @@ fn input_at<S: Store>(kernel: &mut Kernel, store: &mut S, call: Call, addr: u32)
     ensures answered { IsAnswered kernel.old kernel.new (S.view store.old) (S.view store.new) (input_event call (Some addr)) result }
     ensures cause { StoreCause (mark_of result) (S.view store.old).faults (S.view store.new).faults }
     ensures rises { MetersRise (2 ^ 36) kernel.old.memory.frames kernel.new.memory.frames }
+    ensures copying { IsTrue (is_strong (class_of call.sem)) → CopiesAtMost 0 kernel.old.memory kernel.new.memory }
 {
     match call.sem.class() {
         Class::Copy => copy(kernel, store, call, addr),
@@ -77,6 +79,7 @@ fn input_anywhere<S: Store>(kernel: &mut Kernel, store: &mut S, call: Call) -> R
     ensures answered { IsAnswered kernel.old kernel.new (S.view store.old) (S.view store.new) (input_event call None) result }
     ensures cause { StoreCause (mark_of result) (S.view store.old).faults (S.view store.new).faults }
     ensures rises { MetersRise (2 ^ 36) kernel.old.memory.frames kernel.new.memory.frames }
+    ensures copying { IsTrue (is_strong (class_of call.sem)) → CopiesAtMost 0 kernel.old.memory kernel.new.memory }
     ensures reuses { ReusesHidden kernel.old kernel.new call result }
 {
     match call.sem.class() {
@@ -117,6 +120,9 @@ pub fn input<S: Store>(
     ensures step { (host : HostView) → StepsTold (view kernel.old host (S.view store.old)) (event.Input pid sem dev port flow addr len) (view kernel.new host (S.view store.new)) result }
     ensures cause { StoreCause (mark_of result) (S.view store.old).faults (S.view store.new).faults }
     ensures rises { MetersRise (2 ^ 36) kernel.old.memory.frames kernel.new.memory.frames }
+
+    // Before its bytes come, an input by copy or by move makes the processor move none.
+    ensures copying { IsTrue (is_strong (class_of sem)) → CopiesAtMost 0 kernel.old.memory kernel.new.memory }
 
     // An input by emulated move uses the frames of a hidden region again.
     ensures reuses { ReusesHidden kernel.old kernel.new (record { pid = pid; sem = sem; dev = dev; port = port; flow = flow; len = len }) result }

@@ -9,6 +9,7 @@ ghost use Rattle.genie_kernel.specs.Good.{IsGood};
 ghost use Rattle.genie_kernel.specs.Rising.{MetersRise};
 ghost use Rattle.genie_room.specs.Rooms.{HasRoom};
 ghost use Rattle.genie_changes.specs.Making.{IsMoved};
+ghost use Rattle.genie_copying.specs.Spending.{CopiesAtMost};
 
 use genie_changes::making::memory_moves;
 use genie_kernel::Kernel;
@@ -32,6 +33,7 @@ pub(crate) fn make_free<S: Store>(
     ensures meters { AreBelow (2 ^ 63 + 2 ^ 20) kernel.new.memory.frames.meters }
     ensures cause { HasCause (S.view store.old).faults (S.view store.new).faults result }
     ensures rises { MetersRise (2 ^ 13) kernel.old.memory.frames kernel.new.memory.frames }
+    ensures copying { CopiesAtMost 0 kernel.old.memory kernel.new.memory }
 {
     memory_moves();
     places_suffice();

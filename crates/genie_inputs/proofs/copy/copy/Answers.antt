@@ -8,6 +8,7 @@ use Rattle.genie_inputs.proofs.Readied.{ready_moved}
 use Rattle.genie_inputs.proofs.Copying.{copy_answers, copy_room, copy_can_post}
 use Rattle.genie_kernel.specs.declared.kernel.Kernel.{Kernel}
 use Rattle.genie_inputs.proofs.Rising.{rises_between}
+use Rattle.genie_inputs.proofs.Moving.{moves_none, moves_on}
 use Rattle.genie_inputs.proofs.copy.copy.Goals as goal
 
 pub lend_strongly-requires-clause-fits : goal.lend_strongly-requires-clause-fits
@@ -33,3 +34,6 @@ returns-in-Ok-clause-rises g c = rises_between (2 ^ 20) c.args.kernel.now.memory
 
 pub returns-in-Err-clause-rises : goal.returns-in-Err-clause-rises
 returns-in-Err-clause-rises g c = rises_between (2 ^ 20) c.args.kernel.now.memory.frames c.args.kernel.now.memory.frames c.lend_strongly.new.kernel.memory.frames c.lend_strongly.new.kernel.memory.frames refl refl refl refl (omega arith) c.lend_strongly.ensures.rises
+
+pub returns-in-Ok-clause-copying : goal.returns-in-Ok-clause-copying
+returns-in-Ok-clause-copying g c = moves_on c.args.kernel.now.memory c.lend_strongly.new.kernel.memory c.post.new.kernel.memory c.lend_strongly.ensures.copying (moves_none c.lend_strongly.new.kernel.memory c.post.new.kernel.memory (ap (λ (z : Kernel). z.memory.frames.meters) c.post.ensures))

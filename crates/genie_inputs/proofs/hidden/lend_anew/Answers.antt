@@ -8,6 +8,7 @@ use Rattle.genie_inputs.proofs.HiddenAgain.{on_err}
 use Rattle.genie_inputs.proofs.Holding.{hold_room, made_by_move}
 use Rattle.genie_inputs.proofs.Placing.{may_place}
 use Rattle.genie_inputs.proofs.Readied.{ready_cleared, ready_on}
+use Rattle.genie_inputs.proofs.Moving.{moves_none, moves_on}
 use Rattle.genie_inputs.proofs.hidden.lend_anew.Goals as goal
 
 pub make_room-requires-clause-alive : goal.make_room-requires-clause-alive
@@ -30,3 +31,6 @@ returns-clause-ready g c =
 
 pub returns-clause-rises : goal.returns-clause-rises
 returns-clause-rises g c = rises_twice 0 (2 ^ 20) (2 ^ 20) c.args.kernel.now.memory.frames c.make_room.new.kernel.memory.frames c.lend_strongly.new.kernel.memory.frames (omega arith) (rises_same 0 c.args.kernel.now.memory.frames c.make_room.new.kernel.memory.frames c.make_room.ensures.clears.meters c.make_room.ensures.clears.landed) c.lend_strongly.ensures.rises
+
+pub returns-clause-copying : goal.returns-clause-copying
+returns-clause-copying g c = moves_on c.args.kernel.now.memory c.make_room.new.kernel.memory c.lend_strongly.new.kernel.memory (moves_none c.args.kernel.now.memory c.make_room.new.kernel.memory c.make_room.ensures.clears.meters) c.lend_strongly.ensures.copying

@@ -11,6 +11,7 @@ use Rattle.genie_inputs.specs.HiddenReuse.{HoldsBuffer, ReusesFrames}
 use Rattle.genie_inputs.specs.Ready.{IsReady}
 use Rattle.genie_inputs.proofs.HiddenAgain.{hidden_holds, hidden_reused, if_ok, none_reused, took_nothing}
 use Rattle.genie_kernel.specs.Rising.{MetersRise}
+use Rattle.genie_copying.specs.Spending.{CopiesAtMost}
 use Rattle.genie_inputs.proofs.hidden.lend_held.Goals as goal
 
 pub returns-in-Some-clause-holds : goal.returns-in-Some-clause-holds
@@ -45,3 +46,6 @@ returns-in-None-clause-ready g c = subst (λ (z : Kernel). OnErr c.lend_anew.res
 
 pub returns-in-None-clause-rises : goal.returns-in-None-clause-rises
 returns-in-None-clause-rises g c = subst (λ (z : Kernel). MetersRise (2 ^ 20) z.memory.frames c.lend_anew.new.kernel.memory.frames) (c.take_hidden.ensures.unchanged c.in-None.is) c.lend_anew.ensures.rises
+
+pub returns-in-None-clause-copying : goal.returns-in-None-clause-copying
+returns-in-None-clause-copying g c = subst (λ (z : Kernel). CopiesAtMost 0 z.memory c.lend_anew.new.kernel.memory) (c.take_hidden.ensures.unchanged c.in-None.is) c.lend_anew.ensures.copying

@@ -5,6 +5,7 @@ use Rattle.genie_hiding.specs.Hidden.{is_same, without}
 use Rattle.genie_kernel.specs.declared.transfer.Loans.TheVariants.{Inward}
 use Rattle.genie_inputs.proofs.HiddenAgain.{found_at, found_nowhere, hidden_pages, may_take, span_few, taken_is}
 use Rattle.genie_inputs.proofs.Rising.{rises_object}
+use Rattle.genie_inputs.proofs.Moving.{moves_object}
 use Rattle.genie_inputs.proofs.hidden.take_hidden.Goals as goal
 
 pub lend_object-requires-clause-cached : goal.lend_object-requires-clause-cached
@@ -33,3 +34,6 @@ returns-in-None-clause-unchanged c =
 
 pub returns-in-Some-clause-rises : goal.returns-in-Some-clause-rises
 returns-in-Some-clause-rises c = rises_object c.args.id.0 c.args.call.len c.in-Some.region.object.0 c.args.kernel.now.memory c.lend_object.new.memory (Inward c.lend_object.result) (span_few c.args.kernel.now c.args.call c.requires.good c.requires.class c.requires.accepted) c.lend_object.ensures
+
+pub returns-in-Some-clause-copying : goal.returns-in-Some-clause-copying
+returns-in-Some-clause-copying c = moves_object c.args.id.0 c.args.call.len c.in-Some.region.object.0 c.args.kernel.now.memory c.lend_object.new.memory (Inward c.lend_object.result) c.lend_object.ensures

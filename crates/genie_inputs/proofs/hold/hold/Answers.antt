@@ -7,6 +7,7 @@ use Rattle.genie_inputs.proofs.HiddenAgain.{fault_reuses, held_new, hold_reuses}
 use Rattle.genie_inputs.proofs.Holding.{hold_answers, hold_can_post, hold_may_add, made_by_move}
 use Rattle.genie_inputs.proofs.Rising.{rises_between}
 use Rattle.genie_kernel.specs.declared.kernel.Kernel.{Kernel}
+use Rattle.genie_inputs.proofs.Moving.{moves_none, moves_on}
 use Rattle.genie_inputs.proofs.hold.hold.Goals as goal
 
 pub find_place-place-requires-clause-made : goal.find_place-place-requires-clause-made
@@ -58,3 +59,6 @@ returns-in-Ok-clause-rises g c = rises_between (2 ^ 20) c.args.kernel.now.memory
 
 pub returns-in-Err-clause-rises : goal.returns-in-Err-clause-rises
 returns-in-Err-clause-rises g c = rises_between (2 ^ 20) c.args.kernel.now.memory.frames c.args.kernel.now.memory.frames c.lend_held.new.kernel.memory.frames c.lend_held.new.kernel.memory.frames refl refl refl refl (omega arith) c.lend_held.ensures.rises
+
+pub returns-in-Ok-clause-copying : goal.returns-in-Ok-clause-copying
+returns-in-Ok-clause-copying g c = moves_on c.args.kernel.now.memory c.lend_held.new.kernel.memory c.post.new.kernel.memory c.lend_held.ensures.copying (moves_none c.lend_held.new.kernel.memory c.post.new.kernel.memory (ap (λ (z : Kernel). z.memory.frames.meters) c.post.ensures ∙ ap (λ (z : Kernel). z.memory.frames.meters) c.add_region.ensures.added))

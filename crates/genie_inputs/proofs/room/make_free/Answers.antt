@@ -13,3 +13,9 @@ returns-in-Ok-clause-rises g c = rises_moved 0 0 8192 0 (2 ^ 13) c.args.kernel.n
 
 pub returns-in-Err-clause-rises : goal.returns-in-Err-clause-rises
 returns-in-Err-clause-rises g c = rises_moved 0 0 8192 0 (2 ^ 13) c.args.kernel.now.memory.frames c.make_room.new.memory.frames c.make_room.ensures.meters c.make_room.ensures.room.landed (omega arith)
+
+pub returns-in-Ok-clause-copying : goal.returns-in-Ok-clause-copying
+returns-in-Ok-clause-copying g c = c.make_room.ensures.meters.work
+
+pub returns-in-Err-clause-copying : goal.returns-in-Err-clause-copying
+returns-in-Err-clause-copying g c = c.make_room.ensures.meters.work
