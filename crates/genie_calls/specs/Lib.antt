@@ -1,4 +1,5 @@
 pub mod Closing
 pub mod CloseLaws
 pub mod Serving
+pub mod Sharing
 pub mod Kinds

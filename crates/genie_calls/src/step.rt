@@ -12,6 +12,7 @@ ghost use Rattle.genie_kernel.specs.Steps.{StepsTold};
 ghost use Rattle.genie_kernel.specs.View.{outline, view};
 ghost use Rattle.genie_copying.specs.Bounds.{KeepsToBound};
 ghost use Rattle.genie_calls.specs.Serving.{IsTabled, Served, Touches, touched_by};
+ghost use Rattle.genie_calls.specs.Sharing.{Shares};
 
 use crate::access::{pageout, read, write};
 use crate::devices::{recv, send};
@@ -152,6 +153,10 @@ pub fn step<'a, H: Host, S: Store>(
     // A refusal changes nothing, and what the processor copies keeps to the table.
     ensures refused { IsSome (refuse (outline kernel.old) event.now) → kernel.new ≡ kernel.old }
     ensures copying { IsTabled event.now → KeepsToBound kernel.old event.now kernel.new result }
+
+    // What a child may share with its parent it does, the frames of a hidden region are used again, and as many pages go to
+    // the store as were asked for, or all that may.
+    ensures sharing { Shares kernel.old event.now kernel.new result }
 {
     serve(kernel, host, store, event, into)
 }
