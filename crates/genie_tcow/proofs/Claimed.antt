@@ -193,3 +193,10 @@ copy_somebody id g bytes m new f s x h = elim (same_or f g) [
   | inl e ↦ ap (λ (n : Memory). is_nobody (owner_at n.frames f)) x.is ∙ ap (λ n. is_nobody (owner_at (claimed m g id bytes).frames n)) e ∙ ap is_nobody (owner_here m g id bytes s x.there x.was_free x.full)
   | inr n ↦ ap (λ (n : Memory). is_nobody (owner_at n.frames f)) x.is ∙ ap is_nobody (owner_else m g id bytes s x.there x.was_free x.full f n) ∙ h
 ]
+
+-- its frame is the transfer's then, and each that was stays so
+pub copy_system : (id g : ℕ) (bytes : List ℕ) (m new : Memory) (f : ℕ) → IsSound m → IsClaimed m new id g bytes → (f ≢ g → owner_at m.frames f ≡ System id) → owner_at new.frames f ≡ System id
+copy_system id g bytes m new f s x h = elim (same_or f g) [
+  | inl e ↦ ap (λ (n : Memory). owner_at n.frames f) x.is ∙ ap (λ n. owner_at (claimed m g id bytes).frames n) e ∙ owner_here m g id bytes s x.there x.was_free x.full
+  | inr n ↦ ap (λ (n : Memory). owner_at n.frames f) x.is ∙ owner_else m g id bytes s x.there x.was_free x.full f n ∙ h n
+]

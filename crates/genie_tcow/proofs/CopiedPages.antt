@@ -1,6 +1,6 @@
 -- Pages are copied, one after the other.
-use Rattle.std.proofs.Common.{◌^◌, ◌≡◌, ◌≢◌, ℕ, zero, suc, ◌+◌, ◌-◌, ◌*◌, ◌/◌, ◌%◌, ◌<◌, ◌≤◌, true, false, List, [], ◌∷◌, ◌++◌, length, map, take, drop, refl, ap, sym, ◌∙◌, arith, rules, subst, get_or, length-append, length-drop, inl, inr}
-use Rattle.std.specs.Prelude.{IsTrue, IfSome, Some, None, Option, count_by, flat_map, nat_lt, if◌then◌else◌}
+use Rattle.std.proofs.Common.{◌^◌, ◌≡◌, ◌≢◌, ◌≢◌, ℕ, zero, suc, ◌+◌, ◌-◌, ◌*◌, ◌/◌, ◌%◌, ◌<◌, ◌≤◌, true, false, List, [], ◌∷◌, ◌++◌, length, map, take, drop, refl, ap, sym, ◌∙◌, arith, rules, subst, get_or, length-append, length-drop, inl, inr}
+use Rattle.std.specs.Prelude.{◌==◌, IsTrue, IfSome, Some, None, Option, count_by, flat_map, nat_lt, if◌then◌else◌}
 use Rattle.std.specs.List.{range_with_len}
 use Rattle.std.proofs.Math.Nat.{mod-lt}
 use Rattle.genie_base.specs.Counts.{is_page_size}
@@ -30,7 +30,10 @@ use Rattle.genie_tcow.specs.Costs.{reads_work}
 use Rattle.genie_tcow.specs.Lending.{no_entry, loans_on, HasLent, IsClaimed}
 use Rattle.genie_plan.specs.Landings.{entries_bytes}
 use Rattle.genie_tcow.specs.Ranges.{HoldsParts, SendsRange, begin_in, left_in, piece_of}
-use Rattle.genie_tcow.proofs.Counting.{on_at, at_last, at_front}
+use Rattle.genie_plan.specs.Lemmas.Ending.{frame_cons, other_test}
+use Rattle.genie_base.specs.Lemmas.Places.{num}
+use Rattle.genie_tcow.proofs.Counting.{on_at, on_push, at_last, at_front}
+use Rattle.genie_tcow.specs.Owning.{AreTransfers}
 use Rattle.genie_tcow.proofs.Owned.{framed_there}
 use Rattle.genie_tcow.proofs.PlaceOf.{placed_bytes, on_frame, known_slot}
 use Rattle.genie_tcow.proofs.Copying.{full_size}
@@ -42,11 +45,12 @@ use Rattle.genie_base.specs.Counts.{span}
 use Rattle.genie_tcow.proofs.Totals.{chosen_most, total_most, total_grow, below_page, page_most}
 use Rattle.genie_tcow.proofs.Lent.{lent_on, lent_none, lent_failed, is_out}
 use Rattle.genie_tcow.proofs.Holding.{entries_still}
-use Rattle.genie_tcow.proofs.Claimed.{copy_lent, copy_somebody}
+use Rattle.genie_tcow.proofs.Claimed.{copy_lent, copy_somebody, copy_system}
 
 -- the bytes that were copied so far
 pub record CopiedSoFar (id o i first len : ℕ) (loans : List Loan) (n off left : ℕ) (old new : Memory) (before now : StoreView) : Type 0 where
   pub lent : HasLent Strong id no_entry loans old new before now
+  pub system : AreTransfers id loans new.frames
   pub parts : HoldsParts old before o i first len loans new.frames
   pub only : new ≡ record old { frames = new.frames }
   pub number : length loans ≡ n
@@ -102,6 +106,7 @@ parts_one old v o i first len n loans loan t u size last x y k d l = elim (cases
 pub copied_none : {X : Type 0} (loan_of : X → Loan) (id o i first len : ℕ) (loans : List X) (m : Memory) (v : StoreView) → loans ≡ [] → IsSound m → CopiedSoFar id o i first len (map loan_of loans) 0 first len m m v v
 copied_none loan_of id o i first len loans m v e s = subst (λ xs. CopiedSoFar id o i first len (map loan_of xs) 0 first len m m v v) (sym e) (record {
   lent = lent_none Strong id no_entry m v s;
+  system = λ f h. absurd (omega (arith, h));
   parts = λ k d l. absurd (omega (arith, l));
   only = refl;
   number = refl;
@@ -125,6 +130,12 @@ off_within first (suc n) off page e l = let at : off ≡ 0 = e in omega (arith, 
 reads_next : (old : Memory) (o i n : ℕ) → reads_work old o i (n + 1) ≡ reads_work old o i n + read_work old o (i + n)
 reads_next old o i n = let d : n + 1 ≡ suc n = omega arith in ap (reads_work old o i) d
 
+-- a frame of these loans is one of the others, or the last one's
+on_others : (loans : List Loan) (loan : Loan) (f : ℕ) → 0 < loans_on (loans ++ loan ∷ []) f → f ≢ loan.frame → 0 < loans_on loans f
+on_others loans loan f h apart =
+    let none : num (loan.frame == f) ≡ 0 = ap num (other_test loan.frame f (λ e. apart (sym e))) in
+    omega (arith, h, on_push loans loan f, frame_cons loan [] f, none)
+
 pub copied_more : {X : Type 0} (loan_of : X → Loan) (id o i first len n j : ℕ) (off left off' left' : ℕ) (loans items : List X) (loan : X) (old m new : Memory) (before mid now : StoreView) → j ≡ i + n → first < old.frames.page → off' ≡ 0 → left' ≡ left - piece_of m.frames.page off left → CopiedSoFar id o i first len (map loan_of loans) n off left old m before mid → items ≡ loans ++ loan ∷ [] → (loan_of loan).kind ≡ Strong
     → IsClaimed m new id (loan_of loan).frame (bytes_at new.frames (loan_of loan).frame) → IfSome (bytes_of m mid o j) (λ b. part off left (bytes_at new.frames (loan_of loan).frame) ≡ part off left b) → Spends (piece_of m.frames.page off left + read_work m o j) 1 0 1 m.frames.meters new.frames.meters → now.count ≡ mid.count → now.page ≡ mid.page → now.slots ≡ mid.slots → now.faults ≡ mid.faults
     → CopiedSoFar id o i first len (map loan_of items) (n + 1) off' left' old new before now
@@ -143,6 +154,7 @@ copied_more loan_of id o i first len n j off left off' left' loans items loan ol
     (subst (λ y. IfSome y (λ b. part off left (bytes_at new.frames g) ≡ part off left b)) (entries_still Strong id no_entry (map loan_of loans) old m before mid x.lent o j ∙ ap (bytes_of old before o) at) bytes)) in
     subst (λ xs. CopiedSoFar id o i first len xs (n + 1) off' left' old new before now) (sym all) (record {
       lent = lent_on Strong id no_entry (map loan_of loans) (loan_of loan) old m new before mid now (λ f h. copy_somebody id g (bytes_at new.frames g) m new f x.lent.sound claims (x.lent.owned f h)) x.lent lends;
+      system = λ f h. copy_system id g (bytes_at new.frames g) m new f x.lent.sound claims (λ apart. x.system f (on_others (map loan_of loans) (loan_of loan) f h apart));
       parts = parts_one old before o i first len n (map loan_of loans) (loan_of loan) m.frames new.frames (sym x.number) (λ f h. (lends.keeps.lent f (is_out Strong id no_entry (map loan_of loans) old m before mid x.lent f h)).bytes) x.parts its;
       only = λ k. record new { pages = (ap (λ (q : Memory). q.pages) claims.is ∙ ap (λ (q : Memory). q.pages) x.only) k; objects = (ap (λ (q : Memory). q.objects) claims.is ∙ ap (λ (q : Memory). q.objects) x.only) k; slots = (ap (λ (q : Memory). q.slots) claims.is ∙ ap (λ (q : Memory). q.slots) x.only) k };
       number = omega (arith, size, x.number);

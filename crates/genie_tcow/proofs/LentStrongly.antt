@@ -1,6 +1,7 @@
 -- Pages are lent strongly, one after the other.
-use Rattle.std.proofs.Common.{◌^◌, ◌≡◌, ◌≢◌, ℕ, ◌+◌, ◌-◌, ◌<◌, ◌≤◌, Bool, true, false, List, [], ◌∷◌, ◌++◌, length, map, refl, ap, sym, ◌∙◌, arith, rules, subst, get_or, length-append, inl, inr, ◌⊎◌}
+use Rattle.std.proofs.Common.{◌^◌, ◌≡◌, ◌≢◌, ℕ, zero, suc, ◌+◌, ◌-◌, ◌<◌, ◌≤◌, Bool, true, false, List, [], ◌∷◌, ◌++◌, length, map, refl, ap, sym, ◌∙◌, arith, rules, subst, get_or, length-append, inl, inr, ◌⊎◌}
 use Rattle.std.specs.Prelude.{IfSome, Some, None, Option, ◌||◌, count_by, if◌then◌else◌}
+use Rattle.std.proofs.lemmas.Bool.{cases_lt}
 use Rattle.std.proofs.lemmas.List.{map-append}
 use Rattle.genie_frame.specs.declared.frame.Owner.{Owner}
 use Rattle.genie_frame.specs.declared.frame.Owner.TheVariants.{Free, Page, System, Pool, Nobody}
@@ -28,8 +29,9 @@ use Rattle.genie_object.specs.Lemmas.Touching.{touches_on}
 use Rattle.genie_plan.specs.Loans.{Strong, Loan}
 use Rattle.genie_tcow.specs.Costs.{is_held_in, is_weakly_held, is_copied, send_work, sends_work, OthersNoDearer}
 use Rattle.genie_tcow.specs.Lending.{IsBroughtFor, lent_more, loans_on, see_lent, claimed, HasLent, IsOwn, IsClaimed}
+use Rattle.genie_tcow.specs.Owning.{AreOwnFrames, KeepsOthers}
 use Rattle.genie_tcow.specs.Ranges.{HoldsEntries}
-use Rattle.genie_tcow.proofs.Counting.{times_most, on_one, bool_or}
+use Rattle.genie_tcow.proofs.Counting.{times_most, on_one, bool_or, on_at, at_last, at_front}
 use Rattle.genie_object.specs.Lemmas.Naming.{named_once}
 use Rattle.genie_plan.specs.Lemmas.Landings.{page_in}
 use Rattle.genie_tcow.proofs.PageFrames.{page_owner, in_own_frame}
@@ -174,6 +176,23 @@ module _ (old m : Memory) (o i : ℕ) (s : IsSound old) (z : IsSound m) (keeps :
   pub others_failed : (t : Meters) (new : Memory) → CostsNoMore old m → new ≡ metered m t → OthersNoDearer o i old new
   others_failed t new c is a b out h = ap (λ n. is_copied n a b) is ∙ others_brought c a b out h
 
+  -- every other entry names the page that it named, and no other page has become weakly held
+  pub keeps_own : (f : ℕ) (new : Memory) → i < length (object_at m.objects o) → entry_frame m o i ≡ Some f → new ≡ lent_more (granted m o i false) Strong f → KeepsOthers o i old new
+  keeps_own f new there e is = record {
+    pages = λ a b out. ap (λ (n : Memory). (entry_at n.objects a b).page) is ∙ page_granted m o i false there a b ∙ (touches.entries a b out).page;
+    unheld = λ a b out h. ap (λ n. is_weakly_held n a b) is ∙ own_held m o i f z there e a b (still_unheld a b out h);
+  }
+
+  pub keeps_copy : (g id : ℕ) (bytes : List ℕ) (new : Memory) → IsClaimed m new id g bytes → KeepsOthers o i old new
+  keeps_copy g id bytes new x = record {
+    pages = λ a b out. ap (λ (n : Memory). (entry_at n.objects a b).page) x.is ∙ (touches.entries a b out).page;
+    unheld = λ a b out h. ap (λ n. is_weakly_held n a b) x.is ∙ claimed_same g id bytes new x (entry_frame m a b) ∙ still_unheld a b out h;
+  }
+    where
+      claimed_same : (g id : ℕ) (bytes : List ℕ) (new : Memory) → IsClaimed m new id g bytes → (q : Option ℕ) → is_held_in (lent_more (claimed m g id bytes) Strong g).frames q ≡ is_held_in m.frames q
+      claimed_same g id bytes new x None = refl
+      claimed_same g id bytes new x (Some h) = claimed_held m g id bytes z x.there x.was_free x.full h
+
 or_last : (a b : Bool) → b ≡ true → (a || b) ≡ true
 or_last true b e = refl
 or_last false b e = e
@@ -204,6 +223,12 @@ slot_most Zero = omega arith
 slot_most (Frame f) = omega arith
 slot_most (Slot r) = omega arith
 
+own_one : (old new : Memory) (o i : ℕ) (loan : Loan) → (is_weakly_held old o i ≡ false → entry_frame new o i ≡ Some loan.frame) → AreOwnFrames old new o i (loan ∷ [])
+own_one old new o i loan h zero d l unheld =
+    let place : i + 0 ≡ i = omega arith in
+    subst (λ j. entry_frame new o j ≡ Some loan.frame) (sym place) (h (subst (λ j. is_weakly_held old o j ≡ false) place unheld))
+own_one old new o i loan h (suc k) d l unheld = absurd (omega (arith, l))
+
 module _ (old m : Memory) (v w : StoreView) (o i f : ℕ) (x : IsBroughtFor old m v w o i f) where
   -- a page that is held was in the frame before, and no frame has changed
   pub held_stays : is_held (counts_at m.frames f) ≡ true → (m.frames ≡ old.frames) × (entry_frame old o i ≡ Some f)
@@ -228,6 +253,25 @@ module _ (old m : Memory) (v w : StoreView) (o i f : ℕ) (x : IsBroughtFor old 
           subst (λ n. HasLent Strong id spoken (strong_loan n ∷ []) old new v w) (sym y.same) (subst (λ n. HasLent Strong id spoken (strong_loan f ∷ []) old n v w) (sym y.is) (own_lent m o i f x.moves.sound x.there x.framed id spoken old v w here h x.moves.seen x.moves.keeps touches x.moves.counts x.moves.landed x.takes.free x.takes.added))
       | inl h ↦ copy_lent id spoken g (bytes_at m.frames f) old m new v w x.moves.sound x.moves.seen x.moves.keeps touches x.moves.counts x.moves.landed (held_free h) x.takes.added (copy h)
     ]
+
+    pub page_others : KeepsOthers o i old new
+    page_others = elim (bool_or (is_held (counts_at m.frames f))) [
+      | inr h ↦ keeps_own old m o i x.before x.moves.sound x.moves.keeps x.moves.touches x.moves.counts f new x.there x.framed (own h).is
+      | inl h ↦ keeps_copy old m o i x.before x.moves.sound x.moves.keeps x.moves.touches x.moves.counts g id (bytes_at m.frames f) new (copy h)
+    ]
+
+    -- a page that wasn't weakly held is lent in its frame
+    own_frame : is_weakly_held old o i ≡ false → entry_frame new o i ≡ Some g
+    own_frame unheld = elim (bool_or (is_held (counts_at m.frames f))) [
+      | inr h ↦ ap (λ (n : Memory). entry_frame n o i) (own h).is ∙ ap (frame_of m.pages.pages) (page_granted m o i false x.there o i) ∙ x.framed ∙ ap Some (sym (own h).same)
+      | inl h ↦
+          let stays = held_stays h in
+          let held : is_weakly_held old o i ≡ true = ap (is_held_in old.frames) stays.1 ∙ ap (λ (t : FrameTable). is_held (counts_at t f)) (sym stays.0) ∙ h in
+          let bad : true ≡ false = sym held ∙ unheld in cc
+    ]
+
+    pub page_own : AreOwnFrames old new o i (strong_loan g ∷ [])
+    page_own = own_one old new o i (strong_loan g) own_frame
 
     new_bytes : bytes_at new.frames g ≡ bytes_at m.frames f
     new_bytes = elim (bool_or (is_held (counts_at m.frames f))) [
@@ -282,6 +326,8 @@ can_copy old m o i s same b x =
 pub record LentStrongSoFar (id : ℕ) (spoken : ℕ → ℕ → Bool) (o i : ℕ) (loans : List Loan) (n : ℕ) (old new : Memory) (before now : StoreView) : Type 0 where
   pub lent : HasLent Strong id spoken loans old new before now
   pub bytes : HoldsEntries old before o i loans new.frames
+  pub own : AreOwnFrames old new o i loans
+  pub unheld : (k : ℕ) → n ≤ k → is_weakly_held old o (i + k) ≡ false → is_weakly_held new o (i + k) ≡ false
   pub costs : (k : ℕ) → n ≤ k → is_copied old o (i + k) ≡ false → is_copied new o (i + k) ≡ false
   pub number : length loans ≡ n
   pub spends : Spends (sends_work old o i n) n 0 n old.frames.meters new.frames.meters
@@ -292,6 +338,8 @@ pub strong_none : {X : Type 0} (loan_of : X → Loan) (id : ℕ) (spoken : ℕ �
 strong_none loan_of id spoken o i loans m v e s z = subst (λ xs. LentStrongSoFar id spoken o i (map loan_of xs) 0 m m v v) (sym e) (record {
   lent = lent_none Strong id spoken m v s;
   bytes = holds_none m v o i m.frames;
+  own = λ k d l unheld. absurd (omega (arith, l));
+  unheld = λ k l h. h;
   costs = λ k l h. h;
   number = refl;
   spends = spends_none _ _ _ _ m.frames.meters;
@@ -307,17 +355,38 @@ lent_taken (System t) c h l = refl
 lent_taken (Pool d) c h l = refl
 lent_taken Nobody c h l = refl
 
+-- pages that are lent in their own frames stay there while the next one is lent
+own_on : (old m new : Memory) (o i j : ℕ) (loans : List Loan) (loan : Loan) → IsSound new → IsSound m → j ≡ i + length loans → AreOwnFrames old m o i loans → ((f : ℕ) → 0 < loans_on loans f → owner_at new.frames f ≡ owner_at m.frames f) → KeepsOthers o j m new → (is_weakly_held old o (i + length loans) ≡ false → is_weakly_held m o (i + length loans) ≡ false) → AreOwnFrames m new o j (loan ∷ []) → AreOwnFrames old new o i (loans ++ loan ∷ [])
+own_on old m new o i j loans loan sound was at own owners others unheld last k d l free = elim (cases_lt k (length loans)) [
+  | inl h ↦
+      let f : ℕ = (get_or loans k d).frame in
+      let framed = own k d h free in
+      let y = page_in m o (i + k) f framed in
+      let out = other_entry o j (i + k) (λ e. absurd (omega (arith, h, e, at))) in
+      let page = others.pages o (i + k) out ∙ y.is_page in
+      let owner = owners f (on_at loans k d h) ∙ page_owner m o (i + k) f y was in
+      in_own_frame new o (i + k) f y.number sound page owner ∙ ap Some (sym (ap (λ (q : Loan). q.frame) (at_front loans loan d k h)))
+  | inr h ↦
+      let size : length (loans ++ loan ∷ []) ≡ length loans + 1 = length-append loans (loan ∷ []) in
+      let e : k ≡ length loans = omega (arith, size, l, h) in
+      let place : j + 0 ≡ i + k = omega (arith, e, at) in
+      let here : is_weakly_held m o (j + 0) ≡ false = subst (λ n. is_weakly_held m o n ≡ false) (omega (arith, at)) (unheld (subst (λ n. is_weakly_held old o (i + n) ≡ false) e free)) in
+      subst (λ n. entry_frame new o n ≡ Some (get_or (loans ++ loan ∷ []) k d).frame) place (last 0 d (omega arith) here ∙ ap Some (sym (ap (λ (q : Loan). q.frame) (at_last loans loan d k e))))
+]
+
 work_less : (old m : Memory) (o i : ℕ) → m.frames.page ≡ old.frames.page → (is_copied old o i ≡ false → is_copied m o i ≡ false) → send_work m o i ≤ send_work old o i
 work_less old m o i e c = chosen_less (is_copied old o i) (is_copied m o i) old.frames.page m.frames.page e c
 
-pub strong_more : {X : Type 0} (loan_of : X → Loan) (id : ℕ) (spoken : ℕ → ℕ → Bool) (o first i j : ℕ) (loans items : List X) (loan : X) (old m new : Memory) (before mid now : StoreView) → j ≡ first + i → LentStrongSoFar id spoken o first (map loan_of loans) i old m before mid → items ≡ loans ++ loan ∷ [] → HasLent Strong id spoken (loan_of loan ∷ []) m new mid now → HoldsEntries m mid o j (loan_of loan ∷ []) new.frames → ((h : ℕ) → is_free (owner_at m.frames h) ≡ false → owner_at new.frames h ≡ owner_at m.frames h) → OthersNoDearer o j m new → Spends (send_work m o j) 1 0 1 m.frames.meters new.frames.meters → IsSized new now → now.faults ≡ mid.faults → LentStrongSoFar id spoken o first (map loan_of items) (i + 1) old new before now
-strong_more loan_of id spoken o first i j loans items loan old m new before mid now at x is y bytes owners costs spends sized faults =
+pub strong_more : {X : Type 0} (loan_of : X → Loan) (id : ℕ) (spoken : ℕ → ℕ → Bool) (o first i j : ℕ) (loans items : List X) (loan : X) (old m new : Memory) (before mid now : StoreView) → j ≡ first + i → LentStrongSoFar id spoken o first (map loan_of loans) i old m before mid → items ≡ loans ++ loan ∷ [] → HasLent Strong id spoken (loan_of loan ∷ []) m new mid now → HoldsEntries m mid o j (loan_of loan ∷ []) new.frames → AreOwnFrames m new o j (loan_of loan ∷ []) → KeepsOthers o j m new → ((h : ℕ) → is_free (owner_at m.frames h) ≡ false → owner_at new.frames h ≡ owner_at m.frames h) → OthersNoDearer o j m new → Spends (send_work m o j) 1 0 1 m.frames.meters new.frames.meters → IsSized new now → now.faults ≡ mid.faults → LentStrongSoFar id spoken o first (map loan_of items) (i + 1) old new before now
+strong_more loan_of id spoken o first i j loans items loan old m new before mid now at x is y bytes own others owners costs spends sized faults =
     let all : map loan_of items ≡ map loan_of loans ++ loan_of loan ∷ [] = ap (map loan_of) is ∙ map-append loan_of loans (loan ∷ []) in
     let size : length (map loan_of loans ++ loan_of loan ∷ []) ≡ length (map loan_of loans) + 1 = length-append (map loan_of loans) (loan_of loan ∷ []) in
     let less : send_work m o j ≤ send_work old o (first + i) = subst (λ n. send_work m o n ≤ send_work old o (first + i)) (sym at) (work_less old m o (first + i) x.lent.keeps.page (x.costs i (omega arith))) in
     subst (λ xs. LentStrongSoFar id spoken o first xs (i + 1) old new before now) (sym all) (record {
       lent = lent_on Strong id spoken (map loan_of loans) (loan_of loan) old m new before mid now somebody x.lent y;
       bytes = holds_on old m before mid o first j (map loan_of loans) (loan_of loan) m.frames new.frames (omega (arith, at, x.number)) (entries_still Strong id spoken (map loan_of loans) old m before mid x.lent) (λ f h. (y.keeps.lent f (is_out Strong id spoken (map loan_of loans) old m before mid x.lent f h)).bytes) x.bytes bytes;
+      own = own_on old m new o first j (map loan_of loans) (loan_of loan) y.sound x.lent.sound (omega (arith, at, x.number)) x.own (λ f h. owners f (out_taken f h)) others (λ h. subst (λ n. is_weakly_held m o (first + n) ≡ false) (sym x.number) (x.unheld i (omega arith) (subst (λ n. is_weakly_held old o (first + n) ≡ false) x.number h))) own;
+      unheld = λ k l h. others.unheld o (first + k) (other_entry o j (first + k) (λ e. absurd (omega (arith, l, e, at)))) (x.unheld k (omega (arith, l)) h);
       costs = λ k l h. costs o (first + k) (other_entry o j (first + k) (λ e. absurd (omega (arith, l, e, at)))) (x.costs k (omega (arith, l)) h);
       number = omega (arith, size, x.number);
       spends = spends_next (sends_work old o first) (send_work m o j) i old.frames.meters m.frames.meters new.frames.meters x.spends spends (omega (arith, less));
@@ -325,10 +394,11 @@ strong_more loan_of id spoken o first i j loans items loan old m new before mid 
       faults = faults ∙ x.faults;
     })
   where
+    out_taken : (f : ℕ) → 0 < loans_on (map loan_of loans) f → is_free (owner_at m.frames f) ≡ false
+    out_taken f h = lent_taken (owner_at m.frames f) (counts_at m.frames f) ((x.lent.sound.lent f).free) (is_out Strong id spoken (map loan_of loans) old m before mid x.lent f h)
+
     somebody : (f : ℕ) → 0 < loans_on (map loan_of loans) f → is_nobody (owner_at new.frames f) ≡ false
-    somebody f h =
-        let l = is_out Strong id spoken (map loan_of loans) old m before mid x.lent f h in
-        ap is_nobody (owners f (lent_taken (owner_at m.frames f) (counts_at m.frames f) ((x.lent.sound.lent f).free) l)) ∙ x.lent.owned f h
+    somebody f h = ap is_nobody (owners f (out_taken f h)) ∙ x.lent.owned f h
 
 -- what the next page asks for
 pub record CanGoOn (m : Memory) (o first i : ℕ) : Type 0 where

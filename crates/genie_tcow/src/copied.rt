@@ -16,6 +16,7 @@ ghost use Rattle.genie_plan.specs.Loans as kind;
 ghost use Rattle.genie_plan.specs.Plans.{CanSend};
 ghost use Rattle.genie_tcow.specs.Costs.{reads_work};
 ghost use Rattle.genie_tcow.specs.Lending.{IsFilled, IsClaimed, HasLent, IsTakenBack, no_entry};
+ghost use Rattle.genie_tcow.specs.Owning.{AreTransfers};
 ghost use Rattle.genie_tcow.specs.Ranges.{first_page, pages_of, CanPrepare, IsPlanOf, SendsRange, HoldsParts, piece_of};
 
 use crate::back::take_back;
@@ -171,6 +172,7 @@ fn copy_pages<S: Store>(
     requires meters { AreBelow (2 ^ 64 - 2 ^ 21) memory.old.frames.meters }
     requires empty { loans.old.items ≡ [] }
     ensures lent { HasLent kind.Strong id.0 no_entry (output_loans loans.new.items) memory.old memory.new (S.view store.old) (S.view store.new) }
+    ensures system { AreTransfers id.0 (output_loans loans.new.items) memory.new.frames }
     ensures parts { HoldsParts memory.old (S.view store.old) object.0 first place len (output_loans loans.new.items) memory.new.frames }
     ensures only { memory.new ≡ record memory.old { frames = memory.new.frames } }
     ensures number { OnOk result (length (output_loans loans.new.items) ≡ n) }
@@ -216,6 +218,9 @@ pub fn prepare_copy<S: Store>(
     ensures plan { IfOk result (λ plan. IsPlanOf memory.old.frames.page range.now plan.loans.items plan.first plan.len) }
     ensures ready { IfOk result (λ plan. CanSend memory.new.frames plan.loans.items plan.first plan.len) }
     ensures bytes { IfOk result (λ plan. SendsRange memory.old memory.new (S.view store.old) range.now plan.loans.items plan.first plan.len) }
+
+    // Its frames are the transfer's own.
+    ensures system { IfOk result (λ plan. AreTransfers id.0 (output_loans plan.loans.items) memory.new.frames) }
 
     // Its loans are strong, and beside them nothing has changed that is seen or that a device holds.
     ensures lent { IfOk result (λ plan. HasLent kind.Strong id.0 no_entry (output_loans plan.loans.items) memory.old memory.new (S.view store.old) (S.view store.new)) }

@@ -14,6 +14,7 @@ ghost use Rattle.genie_plan.specs.Loans as kind;
 ghost use Rattle.genie_plan.specs.Plans.{CanSend};
 ghost use Rattle.genie_tcow.specs.Costs.{send_work, sends_work, OthersNoDearer};
 ghost use Rattle.genie_tcow.specs.Lending.{IsBroughtFor, lent_more, IsClaimed, IsOwn, HasLent, IsTakenBack};
+ghost use Rattle.genie_tcow.specs.Owning.{AreOwnFrames, KeepsOthers};
 ghost use Rattle.genie_tcow.specs.Ranges.{first_page, pages_of, is_of_range, CanPrepare, IsPlanOf, SendsRange, HoldsEntries};
 
 use crate::back::take_back;
@@ -128,6 +129,8 @@ fn lend_page<S: Store>(
     ensures bytes { IfOk result (λ loan. HoldsEntries memory.old (S.view store.old) at.object.0 at.index (output_loan loan ∷ []) memory.new.frames) }
     ensures failed { OnErr result (memory.new ≡ metered memory.old memory.new.frames.meters) }
     ensures seen { OnErr result (seen_with memory.new (S.view store.new) ≡ seen_with memory.old (S.view store.old)) }
+    ensures own { IfOk result (λ loan. AreOwnFrames memory.old memory.new at.object.0 at.index (output_loan loan ∷ [])) }
+    ensures others { KeepsOthers at.object.0 at.index memory.old memory.new }
     ensures owners { (f : ℕ) → is_free (owner_at memory.old.frames f) ≡ false → owner_at memory.new.frames f ≡ owner_at memory.old.frames f }
     ensures costs { OthersNoDearer at.object.0 at.index memory.old memory.new }
     ensures spends { Spends (send_work memory.old at.object.0 at.index) 1 0 1 memory.old.frames.meters memory.new.frames.meters }
@@ -160,6 +163,7 @@ fn lend_pages<S: Store>(
     requires empty { loans.old.items ≡ [] }
     ensures lent { HasLent kind.Strong id.0 (is_in_range object.0 first n) (output_loans loans.new.items) memory.old memory.new (S.view store.old) (S.view store.new) }
     ensures bytes { HoldsEntries memory.old (S.view store.old) object.0 first (output_loans loans.new.items) memory.new.frames }
+    ensures own { OnOk result (AreOwnFrames memory.old memory.new object.0 first (output_loans loans.new.items)) }
     ensures number { OnOk result (length (output_loans loans.new.items) ≡ n) }
     ensures spends { Spends (sends_work memory.old object.0 first n) n 0 n memory.old.frames.meters memory.new.frames.meters }
     ensures sized { IsSized memory.new (S.view store.new) }
@@ -205,6 +209,9 @@ pub fn prepare_strong<S: Store>(
     ensures plan { IfOk result (λ plan. IsPlanOf memory.old.frames.page range.now plan.loans.items plan.first plan.len) }
     ensures ready { IfOk result (λ plan. CanSend memory.new.frames plan.loans.items plan.first plan.len) }
     ensures bytes { IfOk result (λ plan. SendsRange memory.old memory.new (S.view store.old) range.now plan.loans.items plan.first plan.len) }
+
+    // A page that no device reads or writes in place is lent in its own frame.
+    ensures own { IfOk result (λ plan. AreOwnFrames memory.old memory.new range.now.object.0 (first_page memory.old.frames.page range.now) (output_loans plan.loans.items)) }
 
     // Its loans are strong, and beside them nothing has changed that is seen or that a device holds.
     ensures lent { IfOk result (λ plan. HasLent kind.Strong id.0 (is_of_range memory.old.frames.page range.now) (output_loans plan.loans.items) memory.old memory.new (S.view store.old) (S.view store.new)) }

@@ -2,9 +2,10 @@ use Rattle.std.proofs.Common.{[], ◌∷◌, Bool, sym, subst, arith}
 use Rattle.genie_object.specs.Touching.{is_in_range}
 use Rattle.genie_plan.specs.Loans.{Strong, output_kind}
 use Rattle.genie_tcow.specs.Lending.{HasLent}
+use Rattle.genie_tcow.specs.Owning.{AreOwnFrames}
 use Rattle.genie_tcow.specs.Ranges.{HoldsEntries}
 use Rattle.genie_tcow.proofs.Within.{within_spoken, touches_in}
-use Rattle.genie_tcow.proofs.LentStrongly.{held_free, page_lent, page_bytes, page_owners, page_costs, page_spends}
+use Rattle.genie_tcow.proofs.LentStrongly.{held_free, page_lent, page_bytes, page_owners, page_own, page_others, page_costs, page_spends}
 use Rattle.genie_tcow.proofs.strong.lend_page.Goals as goal
 
 pub lend_frame-requires-clause-free : goal.lend_frame-requires-clause-free
@@ -20,6 +21,14 @@ pub returns-in-Ok-clause-bytes : goal.returns-in-Ok-clause-bytes
 returns-in-Ok-clause-bytes g c =
     let is = page_bytes c.args.memory.now c.bring.new.memory (g.S.Store.view c.args.store.now) (g.S.Store.view c.bring.new.store) c.args.at.object.0 c.args.at.index c.in-Ok.frame.0 c.in-Ok.ensures.brought c.lend_frame.new.memory c.args.id.0 c.lend_frame.result.frame.0 c.lend_frame.ensures.own c.lend_frame.ensures.claimed in
     subst (λ (k : Bool). HoldsEntries c.args.memory.now (g.S.Store.view c.args.store.now) c.args.at.object.0 c.args.at.index (record { kind = output_kind k; frame = c.lend_frame.result.frame.0 } ∷ []) c.lend_frame.new.memory.frames) (sym c.lend_frame.ensures.strong) is
+
+pub returns-in-Ok-clause-own : goal.returns-in-Ok-clause-own
+returns-in-Ok-clause-own g c =
+    let is = page_own c.args.memory.now c.bring.new.memory (g.S.Store.view c.args.store.now) (g.S.Store.view c.bring.new.store) c.args.at.object.0 c.args.at.index c.in-Ok.frame.0 c.in-Ok.ensures.brought c.lend_frame.new.memory c.args.id.0 c.lend_frame.result.frame.0 c.lend_frame.ensures.own c.lend_frame.ensures.claimed in
+    subst (λ (k : Bool). AreOwnFrames c.args.memory.now c.lend_frame.new.memory c.args.at.object.0 c.args.at.index (record { kind = output_kind k; frame = c.lend_frame.result.frame.0 } ∷ [])) (sym c.lend_frame.ensures.strong) is
+
+pub returns-in-Ok-clause-others : goal.returns-in-Ok-clause-others
+returns-in-Ok-clause-others g c = page_others c.args.memory.now c.bring.new.memory (g.S.Store.view c.args.store.now) (g.S.Store.view c.bring.new.store) c.args.at.object.0 c.args.at.index c.in-Ok.frame.0 c.in-Ok.ensures.brought c.lend_frame.new.memory c.args.id.0 c.lend_frame.result.frame.0 c.lend_frame.ensures.own c.lend_frame.ensures.claimed
 
 pub returns-in-Ok-clause-owners : goal.returns-in-Ok-clause-owners
 returns-in-Ok-clause-owners g c = page_owners c.args.memory.now c.bring.new.memory (g.S.Store.view c.args.store.now) (g.S.Store.view c.bring.new.store) c.args.at.object.0 c.args.at.index c.in-Ok.frame.0 c.in-Ok.ensures.brought c.lend_frame.new.memory c.args.id.0 c.lend_frame.result.frame.0 c.lend_frame.ensures.own c.lend_frame.ensures.claimed
