@@ -12,3 +12,4 @@ pub mod Given
 pub mod Gone
 pub mod Rows
 pub mod Rising
+pub mod LentFrames

@@ -24,6 +24,7 @@ use Rattle.genie_changes.specs.Guarding.{NarrowsAll, with_entries}
 use Rattle.genie_changes.specs.Lemmas.Narrowed.{narrowed_keeps, narrowed_seen, narrowed_sound, narrowed_touches}
 use Rattle.genie_changes.specs.Lemmas.Once.{same_object}
 use Rattle.genie_tcow.specs.Lending.{HasLent, IsTakenBack}
+use Rattle.genie_tcow.specs.Owning.{AreOwnFrames}
 use Rattle.genie_tcow.specs.Ranges.{is_of_range}
 
 module _ (old m : Memory) (os : List (List Entry)) (v w : StoreView) (spoken : ℕ → ℕ → Bool) (h : NarrowsAll m.objects os) where
@@ -38,6 +39,9 @@ module _ (old m : Memory) (os : List (List Entry)) (v w : StoreView) (spoken : �
 
   touches_new : Touches spoken old m → Touches spoken old new
   touches_new t = touches_on spoken old m new t (touches_more (λ o i. false) spoken m new (λ o i e. refl) (narrowed_touches m os h))
+
+  pub own_narrowed : (o i : ℕ) (loans : List Loan) → AreOwnFrames old m o i loans → AreOwnFrames old new o i loans
+  own_narrowed o i loans x k d l free = frame_same o (i + k) ∙ x k d l free
 
   pub lent_narrowed : (kind : LoanKind) (id : ℕ) (loans : List Loan) → HasLent kind id spoken loans old m v w → HasLent kind id spoken loans old new v w
   lent_narrowed kind id loans x = record {

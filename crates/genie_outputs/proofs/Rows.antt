@@ -17,13 +17,13 @@ use Rattle.genie_object.specs.declared.objects.Range.{Range}
 use Rattle.genie_object.specs.Costs.{work, is_untouched, write_work, writes_work}
 use Rattle.genie_object.specs.Memory.{entry_frame}
 use Rattle.genie_region.specs.declared.region.Region.{Region}
-use Rattle.genie_tcow.specs.Costs.{is_held_in, send_work, sends_work, reads_work}
+use Rattle.genie_tcow.specs.Costs.{is_held_in, is_weakly_held as tcow_held, send_work, sends_work, reads_work}
 use Rattle.genie_tcow.specs.Ranges.{first_page, pages_of}
 use Rattle.genie_kernel.specs.declared.kernel.Kernel.{Kernel}
 use Rattle.genie_kernel.specs.Good.{IsGood}
 use Rattle.genie_changes.specs.Making.{IsMoved, with_memory}
 use Rattle.genie_copying.specs.Bounds.{KeepsToBound, output_bound, stores_nothing, untouched_bytes, unlendable_bytes, fixed_bytes}
-use Rattle.genie_copying.specs.Kinds.{count_pages, is_fixed, is_unlendable}
+use Rattle.genie_copying.specs.Kinds.{count_pages, is_fixed, is_unlendable, is_weakly_held}
 use Rattle.genie_copying.specs.Ranges.{Pages, pages_at, pages_in, pages_reached}
 use Rattle.genie_copying.specs.Spending.{CopiesAtMost, NoDearer}
 use Rattle.genie_copying.specs.Lemmas.Costing.{fixed_copied}
@@ -41,6 +41,14 @@ reads_bytes m o first (suc n) = let next = bytes_next m.frames.page (is_untouche
 same_held : (t : FrameTable) (u : Bool) (page : ℕ) (x : Option ℕ) → (if u || is_held_in t x then page else 0) ≡ (if u || (elim x [ None ↦ false | Some f ↦ is_held (counts_at t f) ]) then page else 0)
 same_held t u page None = refl
 same_held t u page (Some f) = refl
+
+held_in : (t : FrameTable) (x : Option ℕ) → is_held_in t x ≡ (elim x [ None ↦ false | Some f ↦ is_held (counts_at t f) ])
+held_in t None = refl
+held_in t (Some f) = refl
+
+-- a page is weakly held by both words for it
+pub held_alike : (m : Memory) (o i : ℕ) → tcow_held m o i ≡ is_weakly_held m o i
+held_alike m o i = held_in m.frames (entry_frame m o i)
 
 send_page : (m : Memory) (o i : ℕ) → send_work m o i ≡ (if is_unlendable m o i then m.frames.page else 0)
 send_page m o i = same_held m.frames (is_untouched m o i) m.frames.page (entry_frame m o i)

@@ -3,3 +3,4 @@ pub mod Answering
 pub mod OutputLaws
 pub mod Sharing
 pub mod GivingUp
+pub mod Lending

@@ -13,6 +13,7 @@ ghost use Rattle.genie_plan.specs.Loans.{output_loans};
 ghost use Rattle.genie_plan.specs.Loans as kind;
 ghost use Rattle.genie_plan.specs.Plans.{CanSend, output_frames, times};
 ghost use Rattle.genie_tcow.specs.Lending.{HasLent, IsTakenBack};
+ghost use Rattle.genie_tcow.specs.Owning.{AreOwnFrames};
 ghost use Rattle.genie_tcow.specs.Costs.{sends_work};
 ghost use Rattle.genie_tcow.specs.Ranges.{CanPrepare, IsPlanOf, SendsRange, first_page, is_of_range, pages_of};
 ghost use Rattle.genie_kernel.specs.Rising.{MetersRise};
@@ -51,6 +52,7 @@ pub(crate) fn lend_strong<S: Store>(
     ensures ready { IfOk result (λ plan. CanSend memory.new.frames plan.loans.items plan.first plan.len) }
     ensures bytes { IfOk result (λ plan. SendsRange memory.old memory.new (S.view store.old) range.now plan.loans.items plan.first plan.len) }
     ensures lent { IfOk result (λ plan. HasLent kind.Strong id.0 (is_of_range memory.old.frames.page range.now) (output_loans plan.loans.items) memory.old memory.new (S.view store.old) (S.view store.new)) }
+    ensures own { IfOk result (λ plan. AreOwnFrames memory.old memory.new range.now.object.0 (first_page memory.old.frames.page range.now) (output_loans plan.loans.items)) }
     ensures failed { OnErr result (IsTakenBack (is_of_range memory.old.frames.page range.now) memory.old memory.new (S.view store.old) (S.view store.new)) }
     ensures rises { MetersRise (2 ^ 20) memory.old.frames memory.new.frames }
     ensures copies { CopiesAtMost (sends_work memory.old range.now.object.0 (first_page memory.old.frames.page range.now) (pages_of memory.old.frames.page range.now)) memory.old memory.new }

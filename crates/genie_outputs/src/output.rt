@@ -12,6 +12,7 @@ ghost use Rattle.genie_kernel.specs.Rising.{MetersRise};
 ghost use Rattle.genie_kernel.specs.Steps.{StepsTold, StoreCause};
 ghost use Rattle.genie_kernel.specs.View.{view, outline};
 ghost use Rattle.genie_copying.specs.Bounds.{KeepsToBound};
+ghost use Rattle.genie_outputs.specs.Lending.{LendsFrames};
 
 use crate::call::is_plain;
 use crate::hiding::out_hidden;
@@ -59,6 +60,10 @@ pub fn out<S: Store>(
     // A call that is a copy moves its bytes, and zeroes untouched pages. Every other one moves none but those of the pages that
     // it can't lend in place.
     ensures copying { KeepsToBound kernel.old (event.Output pid sem dev port flow addr len) kernel.new result }
+
+    // A call that is a copy lends frames of its own. An emulated one above the threshold lends each page in its own frame, but
+    // for those that a device reads or writes in place.
+    ensures lends { LendsFrames kernel.old kernel.new (record { pid = pid; sem = sem; dev = dev; port = port; flow = flow; addr = addr; len = len }) result }
     ensures rises { MetersRise (2 ^ 36) kernel.old.memory.frames kernel.new.memory.frames }
 {
     match sem.class() {

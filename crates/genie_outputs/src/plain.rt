@@ -1,8 +1,9 @@
 //! Outputs whose bytes are copied at once.
-ghost use Rattle.std.specs.Prelude.{◌+◌, ◌≤◌, ◌≡◌, ◌<◌, ◌-◌, ◌^◌, None, true};
+ghost use Rattle.std.specs.Prelude.{ℕ, ◌+◌, ◌≤◌, ◌≡◌, ◌<◌, ◌-◌, ◌^◌, None, true};
 ghost use Rattle.genie_base.specs.Events.{mark_of};
 ghost use Rattle.genie_base.specs.Transfers.{class_of};
 ghost use Rattle.genie_base.specs.declared.event.Event.TheVariants as event;
+ghost use Rattle.genie_base.specs.declared.reply.Reply.TheVariants as reply;
 ghost use Rattle.genie_base.specs.declared.semantics.Class.TheVariants.{Copy};
 ghost use Rattle.genie_host.specs.Host.{HostView};
 ghost use Rattle.genie_object.specs.Costs.{AreBelow};
@@ -16,6 +17,7 @@ ghost use Rattle.genie_kernel.specs.View.{view, outline};
 ghost use Rattle.genie_copying.specs.Bounds.{KeepsToBound};
 ghost use Rattle.genie_outputs.specs.Answering.{IsReady, IsAnswered, KeepsToRow};
 ghost use Rattle.genie_outputs.specs.Calls.{is_plain};
+ghost use Rattle.genie_outputs.specs.Lending.{LendsCopies};
 
 use crate::begin::add_output;
 use crate::call::Call;
@@ -41,6 +43,7 @@ fn begin_copied<S: Store>(
     requires plain { is_plain call.now.sem call.now.len kernel.old.config.cout ≡ true }
     ensures answered { IsAnswered kernel.old call.now kernel.new (S.view store.old) (S.view store.new) result }
     ensures copies { KeepsToRow kernel.old call.now range.now kernel.new result }
+    ensures lends { (n : ℕ) → result ≡ reply.Id n → LendsCopies kernel.old kernel.new }
     ensures rises { MetersRise (2 ^ 33) kernel.old.memory.frames kernel.new.memory.frames }
 {
     output_laws();
@@ -87,6 +90,7 @@ pub fn out_copied<S: Store>(
     ensures step { (host : HostView) → StepsTold (view kernel.old host (S.view store.old)) (event.Output pid sem dev port flow addr len) (view kernel.new host (S.view store.new)) result }
     ensures cause { StoreCause (mark_of result) (S.view store.old).faults (S.view store.new).faults }
     ensures copying { KeepsToBound kernel.old (event.Output pid sem dev port flow addr len) kernel.new result }
+    ensures lends { (n : ℕ) → result ≡ reply.Id n → LendsCopies kernel.old kernel.new }
     ensures rises { MetersRise (2 ^ 36) kernel.old.memory.frames kernel.new.memory.frames }
 {
     output_laws();

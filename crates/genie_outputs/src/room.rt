@@ -11,7 +11,7 @@ ghost use Rattle.genie_kernel.specs.Good.{IsGood};
 ghost use Rattle.genie_kernel.specs.Rising.{MetersRise};
 ghost use Rattle.genie_kernel.specs.View.{outline};
 ghost use Rattle.genie_changes.specs.Making.{IsMoved};
-ghost use Rattle.genie_copying.specs.Spending.{CopiesAtMost, NoDearer};
+ghost use Rattle.genie_copying.specs.Spending.{CopiesAtMost, NoDearer, StayUnheld};
 ghost use Rattle.genie_outputs.specs.Answering.{IsReady};
 ghost use Rattle.genie_outputs.specs.Calls.{event_of};
 
@@ -40,6 +40,7 @@ fn make_frames<S: Store>(kernel: &mut Kernel, store: &mut S, frames: u32) -> Res
     ensures rises { MetersRise (2 ^ 13) kernel.old.memory.frames kernel.new.memory.frames }
     ensures copies { CopiesAtMost 0 kernel.old.memory kernel.new.memory }
     ensures costs { NoDearer (objects_of kernel.old.hidden) kernel.old.memory kernel.new.memory }
+    ensures unheld { StayUnheld (objects_of kernel.old.hidden) kernel.old.memory kernel.new.memory }
 {
     places_suffice();
     memory_moves();
@@ -72,6 +73,7 @@ pub(crate) fn make_ready<S: Store>(
     ensures rises { MetersRise (2 ^ 13) kernel.old.memory.frames kernel.new.memory.frames }
     ensures copies { CopiesAtMost 0 kernel.old.memory kernel.new.memory }
     ensures costs { NoDearer (objects_of kernel.old.hidden) kernel.old.memory kernel.new.memory }
+    ensures unheld { StayUnheld (objects_of kernel.old.hidden) kernel.old.memory kernel.new.memory }
 {
     output_laws();
     let region = region_reached(kernel, call);

@@ -51,3 +51,7 @@ room_no_dearer hidden old new v w sound r = record {
   writes = r.writes;
   sends = λ o i out e. both_no (is_untouched new o i) (is_weakly_held new o i) (r.reads o i out (left_no (is_untouched old o i) (is_weakly_held old o i) e)) (held_was hidden old new v w o i sound r out (right_no (is_untouched old o i) (is_weakly_held old o i) e) (entry_frame new o i) refl);
 }
+
+-- and no page that wasn't weakly held is so then
+pub room_unheld : (hidden : List ℕ) (old new : Memory) (v w : StoreView) (o i : ℕ) → IsSound old → MakesRoom hidden old new v w → is_among o hidden ≡ false → is_weakly_held old o i ≡ false → is_weakly_held new o i ≡ false
+room_unheld hidden old new v w o i sound r out un = held_was hidden old new v w o i sound r out un (entry_frame new o i) refl

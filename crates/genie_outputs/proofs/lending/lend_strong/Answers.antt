@@ -1,7 +1,7 @@
-use Rattle.genie_tcow.specs.Ranges.{is_of_range}
+use Rattle.genie_tcow.specs.Ranges.{first_page, is_of_range}
 use Rattle.genie_plan.specs.Loans as kind
 use Rattle.genie_plan.specs.Loans.{output_loans}
-use Rattle.genie_outputs.proofs.Narrowed.{back_narrowed, lent_narrowed, there_still}
+use Rattle.genie_outputs.proofs.Narrowed.{back_narrowed, lent_narrowed, there_still, own_narrowed}
 use Rattle.genie_outputs.proofs.Rising.{rises_strong}
 use Rattle.genie_outputs.proofs.lending.lend_strong.Goals as goal
 
@@ -28,3 +28,6 @@ returns-in-Ok-clause-rises g c = rises_strong c.args.memory.now c.prepare_strong
 
 pub returns-in-Err-clause-rises : goal.returns-in-Err-clause-rises
 returns-in-Err-clause-rises g c = rises_strong c.args.memory.now c.prepare_strong.new.memory c.args.range.now c.requires.sound c.requires.range c.in-Err.ensures.failed.landed c.prepare_strong.ensures.spends
+
+pub returns-in-Ok-clause-own : goal.returns-in-Ok-clause-own
+returns-in-Ok-clause-own g c = own_narrowed c.args.memory.now c.prepare_strong.new.memory c.guard.new.objects (g.S.Store.view c.args.store.now) (g.S.Store.view c.prepare_strong.new.store) (is_of_range c.args.memory.now.frames.page c.args.range.now) c.guard.ensures.all c.args.range.now.object.0 (first_page c.args.memory.now.frames.page c.args.range.now) (output_loans c.in-Ok.plan.loans.items) c.in-Ok.ensures.own

@@ -6,6 +6,7 @@ use Rattle.genie_outputs.proofs.Rows.{meters_left, copied_row}
 use Rattle.genie_kernel.specs.Lemmas.Rising.{rises_left}
 use Rattle.genie_outputs.proofs.Rising.{rises_copied}
 use Rattle.genie_outputs.proofs.plain.begin_copied.Goals as goal
+use Rattle.genie_outputs.proofs.LentFrames.{copies_lent}
 
 pub prepare_copy-requires-clause-range : goal.prepare_copy-requires-clause-range
 prepare_copy-requires-clause-range g c = can_prepare c.output_laws.ensures c.args.kernel.now c.args.call.now c.args.region.now c.args.range.now (g.S.Store.view c.args.store.now) c.requires.ready
@@ -30,3 +31,9 @@ returns-in-Ok-clause-rises g c = rises_left (2 ^ 33) c.args.kernel.now.memory.fr
 
 pub returns-in-Err-clause-rises : goal.returns-in-Err-clause-rises
 returns-in-Err-clause-rises g c = rises_copied c.args.kernel.now.memory c.prepare_copy.new.memory c.args.range.now c.requires.ready.good.sound (can_prepare c.output_laws.ensures c.args.kernel.now c.args.call.now c.args.region.now c.args.range.now (g.S.Store.view c.args.store.now) c.requires.ready) c.in-Err.ensures.failed.landed c.prepare_copy.ensures.spends
+
+pub returns-in-Ok-clause-lends : goal.returns-in-Ok-clause-lends
+returns-in-Ok-clause-lends g c = λ n is. copies_lent c.args.kernel.now c.prepare_copy.new.memory c.args.call.now c.args.region.now c.in-Ok.plan c.add_output.new.kernel c.add_output.ensures c.in-Ok.ensures.system
+
+pub returns-in-Err-clause-lends : goal.returns-in-Err-clause-lends
+returns-in-Err-clause-lends g c = λ n is. absurd (cc)

@@ -3,6 +3,7 @@ use Rattle.genie_outputs.proofs.Rows.{failed_keeps, out_keeps}
 use Rattle.genie_outputs.proofs.Answered.{answered_since, failed_answered, moved_config, moved_numbers}
 use Rattle.genie_kernel.specs.Lemmas.Rising.{rises_most, rises_twice}
 use Rattle.genie_outputs.proofs.plain.out_copied.Goals as goal
+use Rattle.genie_outputs.proofs.LentFrames.{copies_since}
 
 pub returns-in-Ok-clause-kept : goal.returns-in-Ok-clause-kept
 returns-in-Ok-clause-kept g c = (answered_since c.output_laws.ensures c.args.kernel.now c.make_ready.new.kernel c.begin_copied.new.kernel _ (g.S.Store.view c.args.store.now) (g.S.Store.view c.make_ready.new.store) (g.S.Store.view c.begin_copied.new.store) c.begin_copied.result c.make_ready.ensures.moved c.in-Ok.ensures.cause.kept c.begin_copied.ensures.answered).kept
@@ -36,3 +37,9 @@ returns-in-Ok-clause-rises g c = rises_twice (2 ^ 13) (2 ^ 33) (2 ^ 36) c.args.k
 
 pub returns-in-Err-clause-rises : goal.returns-in-Err-clause-rises
 returns-in-Err-clause-rises g c = rises_most (2 ^ 13) (2 ^ 36) c.args.kernel.now.memory.frames c.make_ready.new.kernel.memory.frames (omega arith) c.make_ready.ensures.rises
+
+pub returns-in-Ok-clause-lends : goal.returns-in-Ok-clause-lends
+returns-in-Ok-clause-lends g c = λ n is. copies_since c.args.kernel.now c.make_ready.new.kernel c.begin_copied.new.kernel (g.S.Store.view c.args.store.now) (g.S.Store.view c.make_ready.new.store) c.make_ready.ensures.moved (c.begin_copied.ensures.lends n is)
+
+pub returns-in-Err-clause-lends : goal.returns-in-Err-clause-lends
+returns-in-Err-clause-lends g c = λ n is. absurd (cc)

@@ -1,5 +1,5 @@
 use Rattle.std.proofs.Common.{arith, ◌^◌}
-use Rattle.genie_copying.specs.Lemmas.Making.{room_no_dearer}
+use Rattle.genie_copying.specs.Lemmas.Making.{room_no_dearer, room_unheld}
 use Rattle.genie_hiding.specs.Hidden.{objects_of}
 use Rattle.genie_kernel.specs.Lemmas.Rising.{rises_moved}
 use Rattle.genie_outputs.proofs.room.make_frames.Goals as goal
@@ -21,3 +21,9 @@ returns-in-Ok-clause-rises g c = rises_moved 0 0 8192 0 (2 ^ 13) c.args.kernel.n
 
 pub returns-in-Err-clause-rises : goal.returns-in-Err-clause-rises
 returns-in-Err-clause-rises g c = rises_moved 0 0 8192 0 (2 ^ 13) c.args.kernel.now.memory.frames c.make_room.new.memory.frames c.make_room.ensures.meters c.make_room.ensures.room.landed (omega arith)
+
+pub returns-in-Ok-clause-unheld : goal.returns-in-Ok-clause-unheld
+returns-in-Ok-clause-unheld g c = λ o i out. room_unheld (objects_of c.args.kernel.now.hidden) c.args.kernel.now.memory c.make_room.new.memory (g.S.Store.view c.args.store.now) (g.S.Store.view c.make_room.new.store) o i c.requires.good.sound c.make_room.ensures.room out
+
+pub returns-in-Err-clause-unheld : goal.returns-in-Err-clause-unheld
+returns-in-Err-clause-unheld g c = λ o i out. room_unheld (objects_of c.args.kernel.now.hidden) c.args.kernel.now.memory c.make_room.new.memory (g.S.Store.view c.args.store.now) (g.S.Store.view c.make_room.new.store) o i c.requires.good.sound c.make_room.ensures.room out

@@ -6,6 +6,7 @@ use Rattle.genie_kernel.specs.declared.kernel.Kernel.{Kernel}
 use Rattle.genie_outputs.proofs.Rows.{meters_left, sent_row}
 use Rattle.genie_kernel.specs.Lemmas.Rising.{rises_left, rises_most}
 use Rattle.genie_outputs.proofs.strong.begin_lent.Goals as goal
+use Rattle.genie_outputs.proofs.LentFrames.{own_lent}
 
 pub lend_strong-requires-clause-range : goal.lend_strong-requires-clause-range
 lend_strong-requires-clause-range g c = can_prepare c.output_laws.ensures c.args.kernel.now c.args.call.now c.args.region.now c.args.range.now (g.S.Store.view c.args.store.now) c.requires.ready
@@ -33,3 +34,9 @@ returns-in-Ok-clause-rises g c = rises_left (2 ^ 33) c.args.kernel.now.memory.fr
 
 pub returns-in-Err-clause-rises : goal.returns-in-Err-clause-rises
 returns-in-Err-clause-rises g c = rises_most (2 ^ 20) (2 ^ 33) c.args.kernel.now.memory.frames c.lend_strong.new.memory.frames (omega arith) c.lend_strong.ensures.rises
+
+pub returns-in-Ok-clause-lends : goal.returns-in-Ok-clause-lends
+returns-in-Ok-clause-lends g c = λ n is. own_lent c.args.kernel.now c.lend_strong.new.memory c.args.call.now c.args.region.now c.args.range.now c.in-Ok.plan (g.S.Store.view c.args.store.now) c.add_output.new.kernel c.requires.ready c.add_output.ensures c.in-Ok.ensures.own
+
+pub returns-in-Err-clause-lends : goal.returns-in-Err-clause-lends
+returns-in-Err-clause-lends g c = λ n is. absurd (cc)
