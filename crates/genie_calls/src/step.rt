@@ -154,8 +154,7 @@ pub fn step<'a, H: Host, S: Store>(
     ensures refused { IsSome (refuse (outline kernel.old) event.now) → kernel.new ≡ kernel.old }
     ensures copying { IsTabled event.now → KeepsToBound kernel.old event.now kernel.new result }
 
-    // What a child may share with its parent it does, the frames of a hidden region are used again, and as many pages go to
-    // the store as were asked for, or all that may.
+    // Pages are shared with a child, lent in their own frames, or used again, and not copied.
     ensures sharing { Shares kernel.old event.now kernel.new result }
 {
     serve(kernel, host, store, event, into)
