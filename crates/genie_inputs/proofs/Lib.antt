@@ -19,3 +19,4 @@ mod Sharing
 mod Targeting
 mod Weakly
 mod Rising
+mod Costing

@@ -1,5 +1,5 @@
 //! Loans on the pages of a region, in which a weak input stores at once.
-ghost use Rattle.std.specs.Prelude.{◌≡◌, ℕ, ◌+◌, ◌*◌, ◌/◌, ◌^◌, ◌<◌, ◌≤◌, true, length, IfOk, OnErr};
+ghost use Rattle.std.specs.Prelude.{◌≡◌, Some, ℕ, ◌+◌, ◌*◌, ◌/◌, ◌^◌, ◌<◌, ◌≤◌, true, length, IfOk, OnErr};
 ghost use Rattle.genie_base.specs.Causes.{HasCause};
 ghost use Rattle.genie_base.specs.Counts.{span};
 ghost use Rattle.genie_frame.specs.FrameTable.{counts_at, is_held};
@@ -12,6 +12,9 @@ ghost use Rattle.genie_model.specs.Lemmas.Lists.{Has};
 ghost use Rattle.genie_kernel.specs.Good.{IsGood};
 ghost use Rattle.genie_kernel.specs.Regions.{owned_regions};
 ghost use Rattle.genie_kernel.specs.Rising.{MetersRise};
+ghost use Rattle.genie_copying.specs.Bounds.{fixed_bytes};
+ghost use Rattle.genie_copying.specs.Ranges.{pages_at};
+ghost use Rattle.genie_copying.specs.Spending.{CopiesAtMost};
 ghost use Rattle.genie_changes.specs.Making.{IsMoved};
 ghost use Rattle.genie_inputs.specs.Places.{CanBeWired, LendsPages, Wires};
 
@@ -58,6 +61,7 @@ pub(crate) fn lend_in_place<S: Store>(
     ensures moved { OnErr result (IsMoved kernel.old kernel.new (S.view store.old) (S.view store.new)) }
     ensures cause { HasCause (S.view store.old).faults (S.view store.new).faults result }
     ensures rises { MetersRise (2 ^ 21) kernel.old.memory.frames kernel.new.memory.frames }
+    ensures copying { CopiesAtMost (fixed_bytes kernel.old (Some (pages_at kernel.old.config.page region.object.0 off len))) kernel.old.memory kernel.new.memory }
 {
     memory_moves();
     moves_join();

@@ -13,7 +13,7 @@ ghost use Rattle.genie_kernel.specs.Kept.{Kept};
 ghost use Rattle.genie_kernel.specs.Rising.{MetersRise};
 ghost use Rattle.genie_kernel.specs.Steps.{StepsTold, StoreCause};
 ghost use Rattle.genie_kernel.specs.View.{outline, view};
-ghost use Rattle.genie_copying.specs.Spending.{CopiesAtMost};
+ghost use Rattle.genie_copying.specs.Bounds.{KeepsToBound};
 ghost use Rattle.genie_inputs.specs.Calls.{input_event};
 ghost use Rattle.genie_inputs.specs.HiddenReuse.{ReusesHidden};
 ghost use Rattle.genie_inputs.specs.Posting.{IsAnswered};
@@ -40,7 +40,7 @@ fn input_at<S: Store>(kernel: &mut Kernel, store: &mut S, call: Call, addr: u32)
     ensures answered { IsAnswered kernel.old kernel.new (S.view store.old) (S.view store.new) (input_event call (Some addr)) result }
     ensures cause { StoreCause (mark_of result) (S.view store.old).faults (S.view store.new).faults }
     ensures rises { MetersRise (2 ^ 36) kernel.old.memory.frames kernel.new.memory.frames }
-    ensures copying { IsTrue (is_strong (class_of call.sem)) → CopiesAtMost 0 kernel.old.memory kernel.new.memory }
+    ensures copying { KeepsToBound kernel.old (input_event call (Some addr)) kernel.new result }
 {
     match call.sem.class() {
         Class::Copy => copy(kernel, store, call, addr),
@@ -61,6 +61,7 @@ fn input_weakly<S: Store>(kernel: &mut Kernel, store: &mut S, call: Call) -> Rep
     ensures answered { IsAnswered kernel.old kernel.new (S.view store.old) (S.view store.new) (input_event call None) result }
     ensures cause { StoreCause (mark_of result) (S.view store.old).faults (S.view store.new).faults }
     ensures rises { MetersRise (2 ^ 36) kernel.old.memory.frames kernel.new.memory.frames }
+    ensures copying { KeepsToBound kernel.old (input_event call None) kernel.new result }
 {
     match find_reusable(kernel, call) {
         Some(region) => refill(kernel, store, call, region),
@@ -79,7 +80,7 @@ fn input_anywhere<S: Store>(kernel: &mut Kernel, store: &mut S, call: Call) -> R
     ensures answered { IsAnswered kernel.old kernel.new (S.view store.old) (S.view store.new) (input_event call None) result }
     ensures cause { StoreCause (mark_of result) (S.view store.old).faults (S.view store.new).faults }
     ensures rises { MetersRise (2 ^ 36) kernel.old.memory.frames kernel.new.memory.frames }
-    ensures copying { IsTrue (is_strong (class_of call.sem)) → CopiesAtMost 0 kernel.old.memory kernel.new.memory }
+    ensures copying { KeepsToBound kernel.old (input_event call None) kernel.new result }
     ensures reuses { ReusesHidden kernel.old kernel.new call result }
 {
     match call.sem.class() {
@@ -121,8 +122,9 @@ pub fn input<S: Store>(
     ensures cause { StoreCause (mark_of result) (S.view store.old).faults (S.view store.new).faults }
     ensures rises { MetersRise (2 ^ 36) kernel.old.memory.frames kernel.new.memory.frames }
 
-    // Before its bytes come, an input by copy or by move makes the processor move none.
-    ensures copying { IsTrue (is_strong (class_of sem)) → CopiesAtMost 0 kernel.old.memory kernel.new.memory }
+    // Before its bytes come, an input by copy or by move makes the processor move none, and a weak one those of the pages of
+    // its buffer that can't be written in place.
+    ensures copying { KeepsToBound kernel.old (event.Input pid sem dev port flow addr len) kernel.new result }
 
     // An input by emulated move uses the frames of a hidden region again.
     ensures reuses { ReusesHidden kernel.old kernel.new (record { pid = pid; sem = sem; dev = dev; port = port; flow = flow; len = len }) result }

@@ -11,6 +11,7 @@ ghost use Rattle.genie_space.specs.Spaces.{is_alive, regions_of};
 ghost use Rattle.genie_model.specs.Refusing.{refuse};
 ghost use Rattle.genie_kernel.specs.Good.{IsGood};
 ghost use Rattle.genie_kernel.specs.Rising.{MetersRise};
+ghost use Rattle.genie_copying.specs.Bounds.{KeepsToBound};
 ghost use Rattle.genie_kernel.specs.Steps.{StoreCause};
 ghost use Rattle.genie_kernel.specs.View.{outline};
 ghost use Rattle.genie_inputs.specs.Calls.{input_event};
@@ -61,6 +62,7 @@ pub fn refill<S: Store>(
     ensures answered { IsAnswered kernel.old kernel.new (S.view store.old) (S.view store.new) (input_event call None) result }
     ensures cause { StoreCause (mark_of result) (S.view store.old).faults (S.view store.new).faults }
     ensures rises { MetersRise (2 ^ 36) kernel.old.memory.frames kernel.new.memory.frames }
+    ensures copying { KeepsToBound kernel.old (input_event call None) kernel.new result }
 {
     input_laws();
     region_laws();

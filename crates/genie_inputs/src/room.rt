@@ -9,7 +9,8 @@ ghost use Rattle.genie_kernel.specs.Good.{IsGood};
 ghost use Rattle.genie_kernel.specs.Rising.{MetersRise};
 ghost use Rattle.genie_room.specs.Rooms.{HasRoom};
 ghost use Rattle.genie_changes.specs.Making.{IsMoved};
-ghost use Rattle.genie_copying.specs.Spending.{CopiesAtMost};
+ghost use Rattle.genie_copying.specs.Spending.{CopiesAtMost, NoDearer};
+ghost use Rattle.genie_hiding.specs.Hidden.{objects_of};
 
 use genie_changes::making::memory_moves;
 use genie_kernel::Kernel;
@@ -34,6 +35,7 @@ pub(crate) fn make_free<S: Store>(
     ensures cause { HasCause (S.view store.old).faults (S.view store.new).faults result }
     ensures rises { MetersRise (2 ^ 13) kernel.old.memory.frames kernel.new.memory.frames }
     ensures copying { CopiesAtMost 0 kernel.old.memory kernel.new.memory }
+    ensures costs { NoDearer (objects_of kernel.old.hidden) kernel.old.memory kernel.new.memory }
 {
     memory_moves();
     places_suffice();

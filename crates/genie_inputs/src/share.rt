@@ -8,6 +8,7 @@ ghost use Rattle.genie_object.specs.Sound.{IsSized};
 ghost use Rattle.genie_model.specs.Refusing.{refuse};
 ghost use Rattle.genie_kernel.specs.Good.{IsGood};
 ghost use Rattle.genie_kernel.specs.Rising.{MetersRise};
+ghost use Rattle.genie_copying.specs.Bounds.{KeepsToBound};
 ghost use Rattle.genie_kernel.specs.Steps.{StoreCause};
 ghost use Rattle.genie_kernel.specs.View.{outline};
 ghost use Rattle.genie_inputs.specs.Calls.{input_event};
@@ -37,6 +38,7 @@ pub fn share<S: Store>(kernel: &mut Kernel, store: &mut S, call: Call, addr: u32
     ensures answered { IsAnswered kernel.old kernel.new (S.view store.old) (S.view store.new) (input_event call (Some addr)) result }
     ensures cause { StoreCause (mark_of result) (S.view store.old).faults (S.view store.new).faults }
     ensures rises { MetersRise (2 ^ 36) kernel.old.memory.frames kernel.new.memory.frames }
+    ensures copying { KeepsToBound kernel.old (input_event call (Some addr)) kernel.new result }
 {
     input_laws();
     wires_show_what_was_seen();

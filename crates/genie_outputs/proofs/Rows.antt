@@ -26,7 +26,7 @@ use Rattle.genie_copying.specs.Bounds.{KeepsToBound, output_bound, stores_nothin
 use Rattle.genie_copying.specs.Kinds.{count_pages, is_fixed, is_unlendable, is_weakly_held}
 use Rattle.genie_copying.specs.Ranges.{Pages, pages_at, pages_in, pages_reached}
 use Rattle.genie_copying.specs.Spending.{CopiesAtMost, NoDearer}
-use Rattle.genie_copying.specs.Lemmas.Costing.{fixed_copied}
+use Rattle.genie_copying.specs.Lemmas.Costing.{fixed_copied, writes_bytes}
 use Rattle.genie_copying.specs.Lemmas.Counting.{bytes_fewer, bytes_next, bytes_none, count_fewer}
 use Rattle.genie_outputs.specs.declared.call.Call.{Call}
 use Rattle.genie_outputs.specs.Answering.{IsReady, KeepsToRow}
@@ -56,13 +56,6 @@ send_page m o i = same_held m.frames (is_untouched m o i) m.frames.page (entry_f
 sends_bytes : (m : Memory) (o first n : ℕ) → sends_work m o first n ≡ m.frames.page * count_pages (is_unlendable m o) first n
 sends_bytes m o first zero = sym (bytes_none m.frames.page (is_unlendable m o) first)
 sends_bytes m o first (suc n) = let next = bytes_next m.frames.page (is_unlendable m o) first n in omega (arith, next, sends_bytes m o first n, send_page m o (first + n))
-
-write_page : (m : Memory) (o i : ℕ) → write_work m o i ≡ (if is_fixed m o i then m.frames.page else 0)
-write_page m o i = ap (λ (b : Bool). if b then m.frames.page else 0) (sym (fixed_copied m o i))
-
-writes_bytes : (m : Memory) (o first n : ℕ) → writes_work m o first n ≡ m.frames.page * count_pages (is_fixed m o) first n
-writes_bytes m o first zero = sym (bytes_none m.frames.page (is_fixed m o) first)
-writes_bytes m o first (suc n) = let next = bytes_next m.frames.page (is_fixed m o) first n in omega (arith, next, writes_bytes m o first n, write_page m o (first + n))
 
 -- the rows, by the class of the call
 plain_row : (k : Kernel) (sem : Semantics) (n : ℕ) (r : Option Pages) → class_of sem ≡ class.Copy → is_plain sem n k.config.cout ≡ true → output_bound k sem n r ≡ n + untouched_bytes k r

@@ -1,20 +1,21 @@
 -- What calls of a memory cost, by the kinds of pages.
-use Rattle.std.proofs.Common.{◌≡◌, ℕ, ◌≤◌, ◌*◌, Bool, true, false, List, refl, sym, ◌∙◌}
-use Rattle.std.specs.Prelude.{Option, Some, None, ◌||◌, nat_lt}
+use Rattle.std.proofs.Common.{◌≡◌, ℕ, zero, suc, ◌+◌, ◌≤◌, ◌*◌, Bool, true, false, List, refl, sym, ◌∙◌}
+use Rattle.std.proofs.Common.{ap, arith}
+use Rattle.std.specs.Prelude.{Option, Some, None, ◌||◌, nat_lt, if◌then◌else◌}
 use Rattle.genie_hiding.specs.Hidden.{is_among}
 use Rattle.genie_object.specs.declared.memory.Memory.{Memory}
 use Rattle.genie_object.specs.declared.pages.PageId.{PageId}
 use Rattle.genie_object.specs.declared.pages.Place.{Place}
 use Rattle.genie_object.specs.declared.pages.Place.TheVariants.{Zero, Frame, Slot}
-use Rattle.genie_object.specs.Costs.{is_untouched, is_zero, is_strong_in, must_copy, is_fixed as cannot_stay}
+use Rattle.genie_object.specs.Costs.{is_untouched, is_zero, is_strong_in, must_copy, write_work, writes_work, is_fixed as cannot_stay}
 use Rattle.genie_object.specs.Memory.{frame_in, frame_of}
 use Rattle.genie_object.specs.Objects.{entry_at}
 use Rattle.genie_object.specs.Pages.{page_at}
 use Rattle.genie_frame.specs.FrameTable.{counts_at}
-use Rattle.genie_copying.specs.Kinds.{is_unlendable, is_fixed}
+use Rattle.genie_copying.specs.Kinds.{count_pages, is_unlendable, is_fixed}
 use Rattle.genie_copying.specs.Ranges.{Pages, count_in}
 use Rattle.genie_copying.specs.Spending.{NoDearer}
-use Rattle.genie_copying.specs.Lemmas.Counting.{bytes_fewer, count_fewer}
+use Rattle.genie_copying.specs.Lemmas.Counting.{bytes_fewer, bytes_next, bytes_none, count_fewer}
 
 lent_there : (m : Memory) (z b : Bool) (place : Place) → (z || b || elim (frame_in place) [ None ↦ false | Some f ↦ nat_lt 0 (counts_at m.frames f).strong ]) ≡ (z || b || is_strong_in m.frames.counts place)
 lent_there m z b Zero = refl
@@ -28,6 +29,14 @@ fixed_of m (Some p) = lent_there m (is_zero (page_at m.pages.pages p.0).place) (
 -- a page that can't be written in place is one that a write must copy
 pub fixed_copied : (m : Memory) (o i : ℕ) → is_fixed m o i ≡ must_copy m o i
 fixed_copied m o i = fixed_of m (entry_at m.objects o i).page
+
+-- what it costs to make pages writable in place are the bytes of those that aren't
+write_page : (m : Memory) (o i : ℕ) → write_work m o i ≡ (if is_fixed m o i then m.frames.page else 0)
+write_page m o i = ap (λ (b : Bool). if b then m.frames.page else 0) (sym (fixed_copied m o i))
+
+pub writes_bytes : (m : Memory) (o first n : ℕ) → writes_work m o first n ≡ m.frames.page * count_pages (is_fixed m o) first n
+writes_bytes m o first zero = sym (bytes_none m.frames.page (is_fixed m o) first)
+writes_bytes m o first (suc n) = let next = bytes_next m.frames.page (is_fixed m o) first n in omega (arith, next, writes_bytes m o first n, write_page m o (first + n))
 
 -- after a call that made no page dearer no more pages of an object are untouched, and no more can't be written in place
 pub untouched_fewer : (hidden : List ℕ) (old new : Memory) (r : Pages) → NoDearer hidden old new → is_among r.object hidden ≡ false → new.frames.page * count_in is_untouched new r ≤ old.frames.page * count_in is_untouched old r

@@ -26,6 +26,23 @@ pub count_fewer : (kind other : ℕ → Bool) (first n : ℕ) → ((i : ℕ) →
 count_fewer kind other first zero h = omega arith
 count_fewer kind other first (suc n) h = omega (arith, count_fewer kind other first n h, fewer_one (kind (first + n)) (other (first + n)) (h (first + n)))
 
+-- as many at most as there are, and no fewer among more pages
+pub count_most : (kind : ℕ → Bool) (first n : ℕ) → count_pages kind first n ≤ n
+count_most kind first zero = omega arith
+count_most kind first (suc n) = omega (arith, count_most kind first n, one_most (kind (first + n)))
+  where
+    one_most : (b : Bool) → (if b then 1 else 0) ≤ 1
+    one_most true = omega arith
+    one_most false = omega arith
+
+pub count_longer : (kind : ℕ → Bool) (first n k : ℕ) → count_pages kind first n ≤ count_pages kind first (n + k)
+count_longer kind first n zero =
+    let same : n ≡ n + 0 = omega arith in
+    subst (λ m. count_pages kind first n ≤ count_pages kind first m) same (omega arith)
+count_longer kind first n (suc k) =
+    let next : n + suc k ≡ suc (n + k) = omega arith in
+    subst (λ m. count_pages kind first n ≤ count_pages kind first m) (sym next) (omega (arith, count_longer kind first n k))
+
 -- the bytes of the first page are among those of some, and those of the first two among those of two or more
 pub bytes_first : (page : ℕ) (kind : ℕ → Bool) (first n : ℕ) → 1 ≤ n → (if kind first then page else 0) ≤ page * count_pages kind first n
 bytes_first page kind first zero l = absurd (omega arith)

@@ -1,4 +1,4 @@
-use Rattle.std.proofs.Common.{◌≡◌, ◌∙◌, ap, refl, not, subst, true, arith, ◌^◌}
+use Rattle.std.proofs.Common.{◌≡◌, ◌∙◌, sym, ap, refl, not, subst, true, arith, ◌^◌}
 use Rattle.std.specs.Prelude.{None, is_some}
 use Rattle.genie_base.specs.declared.numbers.RegionId.{RegionId}
 use Rattle.genie_region.specs.declared.region.Region.{Region}
@@ -13,6 +13,11 @@ use Rattle.genie_inputs.proofs.Placing.{may_place}
 use Rattle.genie_frame.specs.FrameTable.{FrameTable}
 use Rattle.genie_inputs.proofs.Rising.{rises_between}
 use Rattle.genie_inputs.proofs.fill.fill.Goals as goal
+use Rattle.genie_inputs.proofs.Costing.{costs_before, costs_left, fill_less, weak_keeps}
+use Rattle.genie_base.specs.declared.semantics.Class.{Class}
+use Rattle.genie_model.specs.Refusing.{must_make}
+use Rattle.genie_kernel.specs.View.{outline}
+use Rattle.genie_base.specs.declared.reply.Reply.TheVariants as reply
 
 pub make_room-requires-clause-alive : goal.make_room-requires-clause-alive
 make_room-requires-clause-alive g c = (may_input c.args.kernel.now c.args.call None c.requires.good c.requires.accepted).alive
@@ -73,3 +78,9 @@ returns-in-Ok-clause-rises g c = rises_between (2 ^ 21) c.args.kernel.now.memory
 
 pub returns-in-Err-clause-rises : goal.returns-in-Err-clause-rises
 returns-in-Err-clause-rises g c = rises_between (2 ^ 21) c.args.kernel.now.memory.frames c.add_region-object.new.kernel.memory.frames c.lend_in_place.new.kernel.memory.frames c.remove_region.new.kernel.memory.frames (ap (λ (z : Kernel). z.memory.frames.meters) c.add_region-object.ensures.added ∙ c.make_room.ensures.clears.meters) (ap (λ (z : Kernel). z.memory.frames.landed) c.add_region-object.ensures.added ∙ c.make_room.ensures.clears.landed) (ap (λ (z : FrameTable). z.meters) c.remove_region.ensures.object.frames) (ap (λ (z : FrameTable). z.landed) c.remove_region.ensures.object.frames) (omega arith) c.lend_in_place.ensures.rises
+
+pub returns-in-Ok-clause-copying : goal.returns-in-Ok-clause-copying
+returns-in-Ok-clause-copying g c = weak_keeps c.args.kernel.now c.post.new.kernel c.args.call (reply.Id c.args.kernel.now.next) _ c.requires.class refl (fill_less c.args.kernel.now c.add_region-object.new.kernel c.args.call c.live_region-region.result c.requires.good (ap (λ (z : Kernel). z.config) c.add_region-object.ensures.added ∙ ap (λ (z : Kernel). z.config) c.make_room.ensures.clears.only) (ap (λ (x : Class). must_make (outline c.args.kernel.now) c.args.call.pid x c.args.call.len) (sym c.requires.class) ∙ c.requires.made)) (costs_before _ c.args.kernel.now.memory c.add_region-object.new.kernel.memory c.post.new.kernel.memory (ap (λ (z : Kernel). z.memory.frames.meters) c.add_region-object.ensures.added ∙ c.make_room.ensures.clears.meters) (costs_left _ c.add_region-object.new.kernel.memory c.lend_in_place.new.kernel.memory c.post.new.kernel.memory (ap (λ (z : Kernel). z.memory.frames.meters) c.post.ensures ∙ ap (λ (z : Kernel). z.memory.frames.meters) c.set_in.ensures) c.lend_in_place.ensures.copying))
+
+pub returns-in-Err-clause-copying : goal.returns-in-Err-clause-copying
+returns-in-Err-clause-copying g c = weak_keeps c.args.kernel.now c.remove_region.new.kernel c.args.call reply.StoreFault _ c.requires.class refl (fill_less c.args.kernel.now c.add_region-object.new.kernel c.args.call c.live_region-region.result c.requires.good (ap (λ (z : Kernel). z.config) c.add_region-object.ensures.added ∙ ap (λ (z : Kernel). z.config) c.make_room.ensures.clears.only) (ap (λ (x : Class). must_make (outline c.args.kernel.now) c.args.call.pid x c.args.call.len) (sym c.requires.class) ∙ c.requires.made)) (costs_before _ c.args.kernel.now.memory c.add_region-object.new.kernel.memory c.remove_region.new.kernel.memory (ap (λ (z : Kernel). z.memory.frames.meters) c.add_region-object.ensures.added ∙ c.make_room.ensures.clears.meters) (costs_left _ c.add_region-object.new.kernel.memory c.lend_in_place.new.kernel.memory c.remove_region.new.kernel.memory (ap (λ (z : FrameTable). z.meters) c.remove_region.ensures.object.frames) c.lend_in_place.ensures.copying))

@@ -1,8 +1,9 @@
-use Rattle.std.proofs.Common.{arith, ◌^◌}
+use Rattle.std.proofs.Common.{refl, arith, ◌^◌}
 use Rattle.genie_inputs.proofs.Lending.{can_wire, lend_failed, lends_pages, moved_within, object_there}
 use Rattle.genie_kernel.specs.Lemmas.Rising.{rises_most, rises_twice}
 use Rattle.genie_inputs.proofs.Rising.{lent_most, rises_lent, rises_wired}
 use Rattle.genie_inputs.proofs.in_place.lend_in_place.Goals as goal
+use Rattle.genie_inputs.proofs.Costing.{costs_left, costs_more, lend_costs}
 
 pub in_place-lent-requires-clause-within : goal.in_place-lent-requires-clause-within
 in_place-lent-requires-clause-within g c = moved_within c.args.kernel.now c.make_free.new.kernel c.args.region c.args.off c.args.len (g.S.Store.view c.args.store.now) (g.S.Store.view c.make_free.new.store) c.requires.good c.make_free.ensures.moved c.requires.owned c.requires.within
@@ -29,3 +30,12 @@ returns-in-Err-lent-clause-rises g c = rises_twice (2 ^ 13) (2 ^ 20) (2 ^ 21) c.
 
 pub returns-in-Ok-lent-clause-rises : goal.returns-in-Ok-lent-clause-rises
 returns-in-Ok-lent-clause-rises g c = rises_wired c.args.basic _ (2 ^ 21) c.args.kernel.now.memory.frames _ c.wire_plan.new.memory c.wire_plan.ensures (rises_twice (2 ^ 13) (2 ^ 20) (2 ^ 21) c.args.kernel.now.memory.frames c.make_free.new.kernel.memory.frames c.in_place-lent.new.memory.frames (omega arith) c.make_free.ensures.rises (rises_lent _ _ _ c.make_free.new.kernel.memory c.in_place-lent.new.memory c.make_free.ensures.moved.good.sound (lent_most c.args.kernel.now c.make_free.new.kernel c.args.off c.args.len (g.S.Store.view c.args.store.now) (g.S.Store.view c.make_free.new.store) c.make_free.ensures.moved c.requires.most) c.in_place-lent.ensures.spends c.in_place-lent.ensures.landed))
+
+pub returns-in-Err-clause-copying : goal.returns-in-Err-clause-copying
+returns-in-Err-clause-copying g c = costs_more 0 _ c.args.kernel.now.memory c.make_free.new.kernel.memory (omega arith) c.make_free.ensures.copying
+
+pub returns-in-Err-lent-clause-copying : goal.returns-in-Err-lent-clause-copying
+returns-in-Err-lent-clause-copying g c = lend_costs c.args.kernel.now c.make_free.new.kernel c.in_place-lent.new.memory c.args.region c.args.off c.args.len _ _ _ (g.S.Store.view c.args.store.now) (g.S.Store.view c.make_free.new.store) c.requires.good c.requires.owned c.make_free.ensures.costs c.make_free.ensures.copying refl c.in_place-lent.ensures.spends
+
+pub returns-in-Ok-lent-clause-copying : goal.returns-in-Ok-lent-clause-copying
+returns-in-Ok-lent-clause-copying g c = costs_left _ c.args.kernel.now.memory c.in_place-lent.new.memory c.wire_plan.new.memory c.wire_plan.ensures.wired.only.meters (lend_costs c.args.kernel.now c.make_free.new.kernel c.in_place-lent.new.memory c.args.region c.args.off c.args.len _ _ _ (g.S.Store.view c.args.store.now) (g.S.Store.view c.make_free.new.store) c.requires.good c.requires.owned c.make_free.ensures.costs c.make_free.ensures.copying refl c.in_place-lent.ensures.spends)

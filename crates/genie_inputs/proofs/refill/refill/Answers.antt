@@ -11,6 +11,8 @@ use Rattle.genie_inputs.proofs.Readied.{ready_moved}
 use Rattle.genie_inputs.proofs.Refilling.{process_low, refill_answers, refill_can_post, reused_found, reused_listed, reused_owned, reused_pages, weak_fits, weak_room, weak_within}
 use Rattle.genie_inputs.proofs.Rising.{rises_between}
 use Rattle.genie_inputs.proofs.refill.refill.Goals as goal
+use Rattle.genie_inputs.proofs.Costing.{costs_left, refill_less, weak_keeps}
+use Rattle.genie_base.specs.declared.reply.Reply.TheVariants as reply
 
 pub lend_in_place-requires-clause-owned : goal.lend_in_place-requires-clause-owned
 lend_in_place-requires-clause-owned g c = reused_owned c.args.kernel.now c.args.call c.args.region c.requires.reusable
@@ -53,3 +55,9 @@ returns-in-Ok-clause-rises g c = rises_between (2 ^ 21) c.args.kernel.now.memory
 
 pub returns-in-Err-clause-rises : goal.returns-in-Err-clause-rises
 returns-in-Err-clause-rises g c = rises_between (2 ^ 21) c.args.kernel.now.memory.frames c.args.kernel.now.memory.frames c.lend_in_place.new.kernel.memory.frames c.lend_in_place.new.kernel.memory.frames refl refl refl refl (omega arith) c.lend_in_place.ensures.rises
+
+pub returns-in-Ok-clause-copying : goal.returns-in-Ok-clause-copying
+returns-in-Ok-clause-copying g c = weak_keeps c.args.kernel.now c.post.new.kernel c.args.call (reply.Id c.args.kernel.now.next) _ c.requires.class refl (refill_less c.args.kernel.now c.args.call c.args.region c.requires.good (may_input c.args.kernel.now c.args.call None c.requires.good c.requires.accepted).alive c.requires.reusable) (costs_left _ c.args.kernel.now.memory c.lend_in_place.new.kernel.memory c.post.new.kernel.memory (ap (λ (z : Kernel). z.memory.frames.meters) c.post.ensures ∙ ap (λ (z : Kernel). z.memory.frames.meters) c.move_in.ensures) c.lend_in_place.ensures.copying)
+
+pub returns-in-Err-clause-copying : goal.returns-in-Err-clause-copying
+returns-in-Err-clause-copying g c = weak_keeps c.args.kernel.now c.lend_in_place.new.kernel c.args.call reply.StoreFault _ c.requires.class refl (refill_less c.args.kernel.now c.args.call c.args.region c.requires.good (may_input c.args.kernel.now c.args.call None c.requires.good c.requires.accepted).alive c.requires.reusable) c.lend_in_place.ensures.copying

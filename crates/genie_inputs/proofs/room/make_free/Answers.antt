@@ -1,6 +1,8 @@
 use Rattle.std.proofs.Common.{ap, arith, ◌^◌}
 use Rattle.genie_kernel.specs.Lemmas.Rising.{rises_moved}
 use Rattle.genie_inputs.proofs.room.make_free.Goals as goal
+use Rattle.genie_hiding.specs.Hidden.{objects_of}
+use Rattle.genie_copying.specs.Lemmas.Making.{room_no_dearer}
 
 pub returns-in-Ok-clause-moved : goal.returns-in-Ok-clause-moved
 returns-in-Ok-clause-moved g c = c.memory_moves.ensures.room c.args.kernel.now (record (c.args.kernel.now) { memory = c.make_room.new.memory; hidden = c.make_room.new.hidden; clock = c.make_room.new.clock }) (g.S.Store.view c.args.store.now) (g.S.Store.view c.make_room.new.store) c.requires.good c.requires.sized (ap (λ h. record (c.args.kernel.now) { memory = c.make_room.new.memory; hidden = h; clock = c.make_room.new.clock }) c.make_room.ensures.hidden) c.make_room.ensures.room
@@ -19,3 +21,9 @@ returns-in-Ok-clause-copying g c = c.make_room.ensures.meters.work
 
 pub returns-in-Err-clause-copying : goal.returns-in-Err-clause-copying
 returns-in-Err-clause-copying g c = c.make_room.ensures.meters.work
+
+pub returns-in-Ok-clause-costs : goal.returns-in-Ok-clause-costs
+returns-in-Ok-clause-costs g c = room_no_dearer (objects_of c.args.kernel.now.hidden) c.args.kernel.now.memory c.make_room.new.memory (g.S.Store.view c.args.store.now) (g.S.Store.view c.make_room.new.store) c.requires.good.sound c.make_room.ensures.room
+
+pub returns-in-Err-clause-costs : goal.returns-in-Err-clause-costs
+returns-in-Err-clause-costs g c = room_no_dearer (objects_of c.args.kernel.now.hidden) c.args.kernel.now.memory c.make_room.new.memory (g.S.Store.view c.args.store.now) (g.S.Store.view c.make_room.new.store) c.requires.good.sound c.make_room.ensures.room

@@ -7,6 +7,8 @@ use Rattle.genie_inputs.proofs.Sharing.{share_answers, share_can_post, share_own
 use Rattle.genie_kernel.specs.declared.kernel.Kernel.{Kernel}
 use Rattle.genie_inputs.proofs.Rising.{rises_between}
 use Rattle.genie_inputs.proofs.share.share.Goals as goal
+use Rattle.genie_inputs.proofs.Costing.{costs_left, share_keeps}
+use Rattle.genie_base.specs.declared.reply.Reply.TheVariants as reply
 
 pub lend_in_place-requires-clause-owned : goal.lend_in_place-requires-clause-owned
 lend_in_place-requires-clause-owned g c = share_owned c.args.kernel.now c.args.call c.args.addr c.find_target-off.result.0 c.find_target-off.result.1 c.find_target-off.ensures
@@ -37,3 +39,9 @@ returns-in-Ok-clause-rises g c = rises_between (2 ^ 21) c.args.kernel.now.memory
 
 pub returns-in-Err-clause-rises : goal.returns-in-Err-clause-rises
 returns-in-Err-clause-rises g c = rises_between (2 ^ 21) c.args.kernel.now.memory.frames c.args.kernel.now.memory.frames c.lend_in_place.new.kernel.memory.frames c.lend_in_place.new.kernel.memory.frames refl refl refl refl (omega arith) c.lend_in_place.ensures.rises
+
+pub returns-in-Ok-clause-copying : goal.returns-in-Ok-clause-copying
+returns-in-Ok-clause-copying g c = share_keeps c.args.kernel.now c.post.new.kernel c.args.call c.args.addr c.find_target-off.result.0 c.find_target-off.result.1 (reply.Id c.args.kernel.now.next) c.requires.class refl c.find_target-off.ensures (costs_left _ c.args.kernel.now.memory c.lend_in_place.new.kernel.memory c.post.new.kernel.memory (ap (λ (z : Kernel). z.memory.frames.meters) c.post.ensures) c.lend_in_place.ensures.copying)
+
+pub returns-in-Err-clause-copying : goal.returns-in-Err-clause-copying
+returns-in-Err-clause-copying g c = share_keeps c.args.kernel.now c.lend_in_place.new.kernel c.args.call c.args.addr c.find_target-off.result.0 c.find_target-off.result.1 reply.StoreFault c.requires.class refl c.find_target-off.ensures c.lend_in_place.ensures.copying
