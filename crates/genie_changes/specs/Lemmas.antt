@@ -2,3 +2,4 @@
 pub mod Once
 pub mod Outside
 pub mod Narrowed
+pub mod Filling

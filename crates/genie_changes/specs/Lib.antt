@@ -21,3 +21,4 @@ pub mod Hiding
 pub mod Turned
 pub mod Unnamed
 pub mod Released
+pub mod Filling

@@ -23,6 +23,11 @@ use Rattle.genie_kernel.specs.Lemmas.OpenHandles.{handles_kept}
 use Rattle.genie_kernel.specs.Lemmas.Stepping.{accepted_step}
 use Rattle.genie_gathering.specs.Receiving.{Receives, input_of}
 use Rattle.genie_gathering.proofs.Handles.{IsAlone, input_alone}
+use Rattle.std.proofs.Common.{append-nil, true}
+use Rattle.genie_object.specs.Memory.{Seen}
+use Rattle.genie_kernel.specs.Steps.{Steps}
+use Rattle.genie_changes.specs.Filling.{StepsFilled, filled_at}
+use Rattle.genie_changes.specs.Lemmas.Filling.{filled_same, filled_twice, none_sent}
 
 option_same : (before after : HostView) (h : ℕ) (o : Option ℕ) → o ≢ Some h → OthersKept h before.handle after.handle → told_at after o ≡ told_at before o
 option_same before after h None other kept = refl
@@ -125,9 +130,38 @@ module _ (d n : ℕ) (before after : HostView) (store : StoreView) (old new : Ke
   received_told = subst (λ (c : Config). StepsTold (view old before store) (Recv d n) (option_map (state_of new) (bytes_with (option_map (seen new.memory) store.slots) (rests_of after c) (sents_of after c))) r) (sym h.config)
       (told_steps store.slots (told before (map input_at old.config.devices)) (told before (map output_at old.config.devices)) refl refl)
 
+  -- over every bytes that the other files may have
+  filled_steps : (slots : Option (ℕ → List ℕ)) (rests sents : ℕ → List ℕ) → (h.ended ≡ true → rests d ≡ [])
+      → StepsTold (option_map (λ (z : Seen). state_of old (record { seen = z; rests = filled_at d (h.taken ++ rests d) rests; sents = sents })) (option_map (seen old.memory) slots)) (Recv d n) (option_map (λ (z : Seen). state_of new (record { seen = z; rests = rests; sents = filled_at d (sents d ++ []) sents })) (option_map (seen new.memory) slots)) r
+  filled_steps None rests sents left = tt
+  filled_steps (Some slots) rests sents left =
+      let first : ℕ → List ℕ = filled_at d (h.taken ++ rests d) rests in
+      let start : first d ≡ h.taken ++ rests d = ap (λ b. if b then h.taken ++ rests d else rests d) (eq-eqb d d refl) in
+      let steps = h.steps slots first sents (rests d) start left in
+      let back : (λ j. if j == d then rests d else first j) ≡ rests = filled_twice d (h.taken ++ rests d) rests in
+      let same : filled_at d (sents d ++ []) sents ≡ sents = filled_same d sents (sents d ++ []) (append-nil (sents d)) in
+      let flat : Steps (state_of old (record { seen = seen old.memory slots; rests = first; sents = sents })) (Recv d n) (state_of new (record { seen = seen new.memory slots; rests = rests; sents = filled_at d (sents d ++ []) sents })) r =
+      subst (λ (z : ℕ → List ℕ). Steps (state_of old (record { seen = seen old.memory slots; rests = first; sents = sents })) (Recv d n) (state_of new (record { seen = seen new.memory slots; rests = rests; sents = z })) r) (sym same)
+      (subst (λ (z : ℕ → List ℕ). Steps (state_of old (record { seen = seen old.memory slots; rests = first; sents = sents })) (Recv d n) (state_of new (record { seen = seen new.memory slots; rests = z; sents = sents })) r) back steps) in
+      accepted_step old (record { seen = seen old.memory slots; rests = first; sents = sents }) (Recv d n) (state_of new (record { seen = seen new.memory slots; rests = rests; sents = filled_at d (sents d ++ []) sents })) r accepted flat
+
+  pub received_filled : StepsFilled old (Recv d n) new r before after store store
+  received_filled = record {
+    taken = h.taken;
+    sent = [];
+    ended = h.ended;
+    input = subst (λ (o : Option ℕ). Consumes (told_at before o) (told_at after o) h.taken) (sym alone.input) h.bytes;
+    output = none_sent (told_at before (output_at (entry old.config.devices d))) (told_at after (output_at (entry old.config.devices d))) (option_same before after (input_of old.config d) (output_at (entry old.config.devices d)) (alone.outputs d) h.only.others);
+    at_end = λ ended. subst (λ (o : Option ℕ). IsAtEnd (told_at after o)) (sym alone.input) (h.at_end ended);
+    steps = λ rests sents a b left. filled_steps store.slots rests sents left;
+  }
+
 -- it is one step of the flat machine, over any store
 pub step_told : (d n : ℕ) (before after : HostView) (old new : Kernel) (r : Reply) → refuse (outline old) (Recv d n) ≡ None → HasHandles old.config before → input_at (entry old.config.devices d) ≡ Some (input_of old.config d) → Receives d n before after old new r → (store : StoreView) → StepsTold (view old before store) (Recv d n) (view new after store) r
 step_told d n before after old new r accepted handles input h store = received_told d n before after store old new r accepted (input_alone old.config before d (input_of old.config d) handles input) h
+
+pub step_filled : (d n : ℕ) (before after : HostView) (old new : Kernel) (r : Reply) → refuse (outline old) (Recv d n) ≡ None → HasHandles old.config before → input_at (entry old.config.devices d) ≡ Some (input_of old.config d) → Receives d n before after old new r → (store : StoreView) → StepsFilled old (Recv d n) new r before after store store
+step_filled d n before after old new r accepted handles input h store = received_filled d n before after store old new r accepted (input_alone old.config before d (input_of old.config d) handles input) h
 
 -- and each handle stays open
 pub handles_stay : (d n : ℕ) (before after : HostView) (old new : Kernel) (r : Reply) → HasHandles old.config before → Receives d n before after old new r → HasHandles new.config after

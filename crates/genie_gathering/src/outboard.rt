@@ -10,6 +10,7 @@ ghost use Rattle.genie_model.specs.Tables.{entry};
 ghost use Rattle.genie_kernel.specs.Good.{IsGood};
 ghost use Rattle.genie_kernel.specs.Handles.{HasHandles};
 ghost use Rattle.genie_kernel.specs.Kept.{Kept};
+ghost use Rattle.genie_changes.specs.Filling.{StepsFilled};
 ghost use Rattle.genie_kernel.specs.Steps.{StepsTold, DeviceCause};
 ghost use Rattle.genie_kernel.specs.Transfers.{is_outboard_device};
 ghost use Rattle.genie_kernel.specs.View.{view, outline};
@@ -129,6 +130,9 @@ pub fn recv_outboard<H: Host>(
 
     // It is one step of the flat machine, whatever store is behind the kernel's pages.
     ensures step { (store : StoreView) → StepsTold (view kernel.old (H.view host.old) store) (event.Recv dev budget) (view kernel.new (H.view host.new) store) result }
+
+    // So it is where the host tells some files and not others, over every bytes that the others may have.
+    ensures filled { (store : StoreView) → StepsFilled kernel.old (event.Recv dev budget) kernel.new result (H.view host.old) (H.view host.new) store store }
     ensures cause { DeviceCause (mark_of result) ((H.view host.old).handle (input_of kernel.old.config dev)).faults ((H.view host.new).handle (input_of kernel.old.config dev)).faults }
 {
     if is_bad(&kernel.devices, dev) {

@@ -18,6 +18,7 @@ use Rattle.genie_kernel.specs.Kept.{Kept}
 use Rattle.genie_kernel.specs.Steps.{Steps, StepsTold, DeviceCause, bytes_over}
 use Rattle.genie_kernel.specs.Told.{input_at}
 use Rattle.genie_kernel.specs.View.{state_of, view}
+use Rattle.genie_changes.specs.Filling.{StepsFilled}
 use Rattle.genie_receiving.specs.Devices.{with_rest}
 
 -- the handle of the input of device d
@@ -77,6 +78,8 @@ pub record IsReceived (d n : ℕ) (before after : HostView) (old new : Kernel) (
   pub numbers : new.next ≡ old.next
   -- where the host and the store tell their bytes, what it stands for and the reply are those of the flat machine's step
   pub step : (store : StoreView) → IsSized old.memory store → HasPages store → StepsTold (view old before store) (Recv d n) (view new after store) reply
+  -- and where the host tells some files and not others, those of a step over every bytes that the others may have
+  pub filled : (store : StoreView) → IsSized old.memory store → HasPages store → StepsFilled old (Recv d n) new reply before after store store
   pub sized : (store : StoreView) → IsSized old.memory store → IsSized new.memory store
   -- a failure is shown only where the count of faults of the device's input rose, and else the count stays
   pub cause : DeviceCause (mark_of reply) (before.handle (input_of old.config d)).faults (after.handle (input_of old.config d)).faults

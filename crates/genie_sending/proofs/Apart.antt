@@ -76,3 +76,6 @@ module _ (cs : List (Option DeviceConfig)) (a : AreApart (flat_map handles_of cs
       (λ (same : j ≡ d). one_device h (entry cs d) (apart_at cs d a) (subst (λ i. input_at (entry cs i) ≡ Some h) same there) is)
       (λ (ne : j ≢ d). only_once h cs j d ne a (has_input h (entry cs j) there) (has_output h (entry cs d) is))
       (same_or j d)
+
+  pub no_input : input_at (entry cs d) ≢ Some h
+  no_input e = one_device h (entry cs d) (apart_at cs d a) e is

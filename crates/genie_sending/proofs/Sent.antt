@@ -25,13 +25,14 @@ use Rattle.genie_kernel.specs.Handles.{HasHandles}
 use Rattle.genie_kernel.specs.Lemmas.DeviceViews.{rests_blind}
 use Rattle.genie_sending.specs.Sending.{IsLentOut, header_for, payload_under, reply_of, transfers_after}
 use Rattle.genie_sending.specs.WorkLaws.{WorkLaws}
-use Rattle.genie_sending.proofs.Apart.{inputs_differ, output_here, outputs_differ}
+use Rattle.genie_sending.proofs.Apart.{inputs_differ, output_here, outputs_differ, no_input}
 use Rattle.genie_sending.proofs.Devices.{more_at, more_sent, with_output}
 use Rattle.genie_sending.proofs.Good.{going_rest, ended_rest, good_with}
 use Rattle.genie_sending.proofs.Moves.{after_step, moved_cause, moved_steps}
 use Rattle.genie_sending.proofs.Outputs.{IsFirstOutput, sending_view}
 use Rattle.genie_sending.proofs.Payload.{ShowsNow, part_shown}
-use Rattle.genie_sending.proofs.Telling.{told_steps}
+use Rattle.genie_sending.proofs.Telling.{filled_steps, told_steps}
+use Rattle.genie_changes.specs.Filling.{StepsFilled}
 
 moved_within : (faulted : Bool) (budget m before now : ℕ) → EndsSend faulted budget m before now → m ≤ budget
 moved_within true budget m before now h = let l = h.1 in omega (arith, l)
@@ -101,3 +102,6 @@ module _ (laws : WorkLaws) (k : Kernel) (g : IsGood k) (d n : ℕ) (accepted : r
     pub sent_told : (store : StoreView) → IfSome store.slots (AreFull k) → StepsTold (view k before store) (Send d n) (view then_is after store) (reply_of step)
     sent_told store full = told_steps d handle new_bytes before after k.config (output_here k.config.devices handles.apart d handle named) (outputs_differ k.config.devices handles.apart d handle named) (inputs_differ k.config.devices handles.apart d handle named) h.sends.only.others h.sends.bytes
         k then_is (Send d n) (reply_of step) accepted refl refl refl (AreFull k) store full real_steps
+
+    pub sent_filled : (store : StoreView) → IfSome store.slots (AreFull k) → StepsFilled k (Send d n) then_is (reply_of step) before after store store
+    sent_filled store full = filled_steps d handle n new_bytes before after k then_is (reply_of step) named (no_input k.config.devices handles.apart d handle named) h.sends.only.others h.sends.bytes accepted refl (AreFull k) store full real_steps

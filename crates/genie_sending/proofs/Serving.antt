@@ -29,7 +29,7 @@ use Rattle.genie_kernel.specs.Handles.{HasHandles}
 use Rattle.genie_kernel.specs.Kept.{Kept}
 use Rattle.genie_kernel.specs.Loans.{frames_of}
 use Rattle.genie_kernel.specs.Regions.{has_id, owned_regions}
-use Rattle.genie_kernel.specs.Steps.{DeviceCause, StepsTold, bytes_over}
+use Rattle.genie_kernel.specs.Steps.{DeviceCause, StepsAlone, StepsTold, bytes_over}
 use Rattle.genie_kernel.specs.Told.{output_at}
 use Rattle.genie_kernel.specs.Transfers.{transfer_view}
 use Rattle.genie_kernel.specs.View.{outline, state_of, view}
@@ -51,8 +51,10 @@ use Rattle.genie_sending.proofs.Orphaned.{orphan_shown}
 use Rattle.genie_sending.proofs.Outputs.{IsFirstOutput}
 use Rattle.genie_sending.proofs.Payload.{ShowsNow, strong_shown}
 use Rattle.genie_sending.proofs.Regions.{region_shown}
-use Rattle.genie_sending.proofs.Sent.{AreFull, sent_cause, sent_good, sent_told}
-use Rattle.genie_sending.proofs.Staged.{staged_cause, staged_good, staged_told}
+use Rattle.genie_sending.proofs.Sent.{AreFull, sent_cause, sent_filled, sent_good, sent_told}
+use Rattle.genie_sending.proofs.Staged.{staged_cause, staged_filled, staged_good, staged_told}
+use Rattle.genie_changes.specs.Filling.{StepsFilled}
+use Rattle.genie_changes.specs.Lemmas.Filling.{alone_filled}
 
 -- the slots of a store that has the kernel's pages
 pub full_slots : (k : Kernel) (store : StoreView) → IsSized k.memory store → HasPages store → IfSome store.slots (AreFull k)
@@ -140,6 +142,7 @@ module _ (laws : WorkLaws) (k : Kernel) (g : IsGood k) (d n : ℕ) (accepted : r
     good : IsGood z
     cause : DeviceCause (mark_of (reply_of h.step)) (before.handle (handle_of v.config.output)).faults (after.handle (handle_of v.config.output)).faults
     told : (store : StoreView) → IfSome store.slots (AreFull k) → StepsTold (view k before store) (Send d n) (view z after store) (reply_of h.step)
+    filled : (store : StoreView) → IfSome store.slots (AreFull k) → StepsFilled k (Send d n) z (reply_of h.step) before after store store
 
   leaves_by : (staged : Bool) → h.step.staged ≡ staged → Leaves (after_step k d h.steps.then_is h.step.whole t)
   leaves_by true e =
@@ -150,6 +153,7 @@ module _ (laws : WorkLaws) (k : Kernel) (g : IsGood k) (d n : ℕ) (accepted : r
         good = staged_good laws k g d n accepted t is v h.steps.then_is h.steps.there going h.step before after e some lent does;
         cause = staged_cause laws k g d n accepted t is v h.steps.then_is h.steps.there going h.step before after e some lent does;
         told = staged_told laws k g d n accepted t is v h.steps.then_is h.steps.there going h.step before after e some lent does handles h.steps.steps.host named (shows_now laws k g d t is lent);
+        filled = staged_filled laws k g d n accepted t is v h.steps.then_is h.steps.there going h.step before after e some lent does handles h.steps.steps.host named (shows_now laws k g d t is lent);
       }
   leaves_by false e =
       let none = sym h.steps.steps.staged ∙ e in
@@ -159,6 +163,7 @@ module _ (laws : WorkLaws) (k : Kernel) (g : IsGood k) (d n : ℕ) (accepted : r
         good = sent_good laws k g d n accepted t is v h.steps.then_is h.steps.there going h.step before after e none does;
         cause = sent_cause laws k g d n accepted t is v h.steps.then_is h.steps.there going h.step before after e none does;
         told = sent_told laws k g d n accepted t is v h.steps.then_is h.steps.there going h.step before after e none does handles named lent (shows_now laws k g d t is lent);
+        filled = sent_filled laws k g d n accepted t is v h.steps.then_is h.steps.there going h.step before after e none does handles named lent (shows_now laws k g d t is lent);
       }
 
   leaves : Leaves new
@@ -188,13 +193,22 @@ module _ (laws : WorkLaws) (k : Kernel) (g : IsGood k) (d n : ℕ) (accepted : r
   pub served_step : (store : StoreView) → IsSized k.memory store → HasPages store → StepsTold (view k before store) (Send d n) (view new after store) r
   served_step store sized pages = subst (StepsTold (view k before store) (Send d n) (view new after store)) (sym h.reply_is) (leaves.told store (full_slots k store sized pages))
 
+  pub served_filled : (store : StoreView) → IsSized k.memory store → HasPages store → StepsFilled k (Send d n) new r before after store store
+  served_filled store sized pages = subst (λ x. StepsFilled k (Send d n) new x before after store store) (sym h.reply_is) (leaves.filled store (full_slots k store sized pages))
+
   pub served_cause : DeviceCause (mark_of r) (before.handle (output_of k.config d)).faults (after.handle (output_of k.config d)).faults
   served_cause = subst (λ z. DeviceCause (mark_of z) (before.handle (output_of k.config d)).faults (after.handle (output_of k.config d)).faults) (sym h.reply_is)
       (subst (λ a. DeviceCause (mark_of (reply_of h.step)) (before.handle a).faults (after.handle a).faults) served_by leaves.cause)
 
 -- no output waits
-pub idle_told : (k : Kernel) (d n : ℕ) (host : HostView) (store : StoreView) → refuse (outline k) (Send d n) ≡ None → list_any (waits_for d) k.transfers ≡ false → StepsTold (view k host store) (Send d n) (view k host store) reply.Idle
-idle_told k d n host store accepted none = alone_told k k (Send d n) reply.Idle host store accepted refl (λ slots rests sents.
+idle_alone : (k : Kernel) (d n : ℕ) → list_any (waits_for d) k.transfers ≡ false → StepsAlone k (Send d n) k reply.Idle
+idle_alone k d n none = λ slots rests sents.
     let b = bytes_over k.memory slots rests sents in
     let see : Transfer → flat.Transfer = transfer_view b.seen.kept_bytes k.devices k.pools (first_waiting k.transfers) in
-    idle_steps (state_of k b) d n (tidy_view k b) (find_map (pending.waits_for d) see k.transfers ∙ ap (option_map see) (find_none (waits_for d) k.transfers none)))
+    idle_steps (state_of k b) d n (tidy_view k b) (find_map (pending.waits_for d) see k.transfers ∙ ap (option_map see) (find_none (waits_for d) k.transfers none))
+
+pub idle_told : (k : Kernel) (d n : ℕ) (host : HostView) (store : StoreView) → refuse (outline k) (Send d n) ≡ None → list_any (waits_for d) k.transfers ≡ false → StepsTold (view k host store) (Send d n) (view k host store) reply.Idle
+idle_told k d n host store accepted none = alone_told k k (Send d n) reply.Idle host store accepted refl (idle_alone k d n none)
+
+pub idle_filled : (k : Kernel) (d n : ℕ) (host : HostView) (store : StoreView) → refuse (outline k) (Send d n) ≡ None → list_any (waits_for d) k.transfers ≡ false → StepsFilled k (Send d n) k reply.Idle host host store store
+idle_filled k d n host store accepted none = alone_filled k k (Send d n) reply.Idle host store accepted (idle_alone k d n none)

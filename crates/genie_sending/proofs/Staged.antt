@@ -34,7 +34,7 @@ use Rattle.genie_kernel.specs.View.{Bytes, no_bytes, outline, state_of, view}
 use Rattle.genie_kernel.specs.Lemmas.Tidying.{tidy_view}
 use Rattle.genie_sending.specs.Sending.{IsLentOut, payload_under, reply_of, transfers_after}
 use Rattle.genie_sending.specs.WorkLaws.{WorkLaws}
-use Rattle.genie_sending.proofs.Apart.{inputs_differ, output_here, outputs_differ}
+use Rattle.genie_sending.proofs.Apart.{inputs_differ, output_here, outputs_differ, no_input}
 use Rattle.genie_sending.proofs.Blind.{SameButPayloads, bare, changed_alike, cut_alike, payloads_blind}
 use Rattle.genie_sending.proofs.Devices.{more_sent, with_output}
 use Rattle.genie_sending.proofs.Good.{going_rest, good_with}
@@ -44,7 +44,8 @@ use Rattle.genie_sending.proofs.Outputs.{IsFirstOutput, going_on, sending_view}
 use Rattle.genie_sending.proofs.Payload.{ShowsNow, payload_length}
 use Rattle.genie_sending.proofs.Sent.{AreFull}
 use Rattle.genie_sending.proofs.States.{first_is, kinds_same, must_stage_is, same_devices, staged_state}
-use Rattle.genie_sending.proofs.Telling.{told_steps}
+use Rattle.genie_sending.proofs.Telling.{filled_steps, told_steps}
+use Rattle.genie_changes.specs.Filling.{StepsFilled}
 
 nothing_appended : (a : Option (List ℕ)) → Appends a a []
 nothing_appended None = tt
@@ -223,3 +224,11 @@ module _ (laws : WorkLaws) (k : Kernel) (g : IsGood k) (d n : ℕ) (accepted : r
 
     pub staged_told : (store : StoreView) → IfSome store.slots (AreFull k) → StepsTold (view k before store) (Send d n) (view (after_step k d w step.whole t) after store) (reply_of step)
     staged_told store full = subst (λ z. StepsTold (view k before store) (Send d n) (view z after store) (reply_of step)) (sym kernel_is) (subst (StepsTold (view k before store) (Send d n) (view then_is after store)) (sym said) (told_new store full))
+
+    filled_new : (store : StoreView) → IfSome store.slots (AreFull k) → StepsFilled k (Send d n) then_is (reply.Staged m) before after store store
+    filled_new store full = filled_steps d handle n [] before after k then_is (reply.Staged m) named (no_input k.config.devices handles.apart d handle named) only.others
+        (subst (λ (z : HostView). Appends (before.handle handle).bytes (z.handle handle).bytes []) (sym h.host) (nothing_appended (before.handle handle).bytes))
+        accepted refl (AreFull k) store full real_steps
+
+    pub staged_filled : (store : StoreView) → IfSome store.slots (AreFull k) → StepsFilled k (Send d n) (after_step k d w step.whole t) (reply_of step) before after store store
+    staged_filled store full = subst (λ z. StepsFilled k (Send d n) z (reply_of step) before after store store) (sym kernel_is) (subst (λ y. StepsFilled k (Send d n) then_is y before after store store) (sym said) (filled_new store full))

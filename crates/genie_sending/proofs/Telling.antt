@@ -16,6 +16,11 @@ use Rattle.genie_kernel.specs.Told.{by_number, input_at, output_at, rests_of, se
 use Rattle.genie_kernel.specs.View.{bytes_with, outline, state_of, view}
 use Rattle.genie_kernel.specs.Lemmas.Stepping.{accepted_step}
 use Rattle.genie_sending.proofs.Devices.{more_at, more_sent}
+use Rattle.genie_base.specs.declared.event.Event.TheVariants.{Send}
+use Rattle.genie_object.specs.Memory.{Seen}
+use Rattle.genie_model.specs.Tables.{entry}
+use Rattle.genie_changes.specs.Filling.{StepsFilled, filled_at, state_over}
+use Rattle.genie_changes.specs.Lemmas.Filling.{filled_same, none_taken}
 
 option_same : (before after : HostView) (h : ℕ) (o : Option ℕ) → o ≢ Some h → OthersKept h before.handle after.handle → told_at after o ≡ told_at before o
 option_same before after h None other kept = refl
@@ -123,3 +128,33 @@ module _ (d h : ℕ) (more : List ℕ) (before after : HostView) (c : Config) (a
         (subst (λ (f : Config). StepsTold (view old before store) e (option_map (state_of new) (bytes_with (option_map (seen old.memory) store.slots) (rests_of after f) (sents_of after f))) reply) (sym same)
         (subst (λ (f : Config). StepsTold (option_map (state_of old) (bytes_with (option_map (seen old.memory) store.slots) (rests_of before f) (sents_of before f))) e (option_map (state_of new) (bytes_with (option_map (seen old.memory) store.slots) (rests_of after c) (sents_of after c))) reply) (sym is)
         (told_by P store.slots (rests_of before c) (sents_of before c) p steps refl refl)))
+
+more_filled : (d : ℕ) (more : List ℕ) (sents : ℕ → List ℕ) → more_at sents d more ≡ filled_at d (sents d ++ more) sents
+more_filled d more sents = λ i j. each j i
+  where
+    each : (j : ℕ) → more_at sents d more j ≡ filled_at d (sents d ++ more) sents j
+    each j = elim (j == d) as (λ b. (j == d) ≡ b → (if b then sents j ++ more else sents j) ≡ (if b then sents d ++ more else sents j)) [
+      | true ↦ λ e. ap (λ k. sents k ++ more) (eqb-true j d e)
+      | false ↦ λ e. refl
+    ] refl
+
+-- so it is where the host tells some files and not others, over every bytes that the others may have
+module _ (d h n : ℕ) (more : List ℕ) (before after : HostView) (old new : Kernel) (reply : Reply) (at : output_at (entry old.config.devices d) ≡ Some h) (other : input_at (entry old.config.devices d) ≢ Some h) (kept : OthersKept h before.handle after.handle) (bytes : Appends (before.handle h).bytes (after.handle h).bytes more) (accepted : refuse (outline old) (Send d n) ≡ None) (memory : new.memory ≡ old.memory) where
+  filled_by : (P : (ℕ → List ℕ) → Type 0) (slots : Option (ℕ → List ℕ)) → IfSome slots P → ((z : ℕ → List ℕ) → P z → (rests sents : ℕ → List ℕ) → Steps (state_of old (bytes_over old.memory z rests sents)) (Send d n) (state_of new (more_sent (bytes_over old.memory z rests sents) d more)) reply) → (rests sents : ℕ → List ℕ)
+      → StepsTold (option_map (λ (z : Seen). state_of old (record { seen = z; rests = filled_at d ([] ++ rests d) rests; sents = sents })) (option_map (seen old.memory) slots)) (Send d n) (option_map (λ (z : Seen). state_of new (record { seen = z; rests = rests; sents = filled_at d (sents d ++ more) sents })) (option_map (seen old.memory) slots)) reply
+  filled_by P None p steps rests sents = tt
+  filled_by P (Some z) p steps rests sents =
+      let flat = accepted_step old (bytes_over old.memory z rests sents) (Send d n) _ reply accepted (steps z p rests sents) in
+      subst (λ (x : ℕ → List ℕ). StepsTold (Some (state_of old (bytes_over old.memory z x sents))) (Send d n) (Some (state_of new (bytes_over old.memory z rests (filled_at d (sents d ++ more) sents)))) reply) (sym (filled_same d rests ([] ++ rests d) refl))
+      (subst (λ (x : ℕ → List ℕ). StepsTold (Some (state_of old (bytes_over old.memory z rests sents))) (Send d n) (Some (state_of new (bytes_over old.memory z rests x))) reply) (more_filled d more sents) flat)
+
+  pub filled_steps : (P : (ℕ → List ℕ) → Type 0) (store : StoreView) → IfSome store.slots P → ((z : ℕ → List ℕ) → P z → (rests sents : ℕ → List ℕ) → Steps (state_of old (bytes_over old.memory z rests sents)) (Send d n) (state_of new (more_sent (bytes_over old.memory z rests sents) d more)) reply) → StepsFilled old (Send d n) new reply before after store store
+  filled_steps P store p steps = record {
+    taken = [];
+    sent = more;
+    ended = false;
+    input = none_taken (told_at before (input_at (entry old.config.devices d))) (told_at after (input_at (entry old.config.devices d))) (option_same before after h (input_at (entry old.config.devices d)) other kept);
+    output = subst (λ (o : Option ℕ). Appends (told_at before o) (told_at after o) more) (sym at) bytes;
+    at_end = λ is. let clash : false ≡ true = is in absurd (cc);
+    steps = λ rests sents a b left. subst (λ m. StepsTold (state_over old store (filled_at d ([] ++ rests d) rests) sents) (Send d n) (option_map (λ (z : Seen). state_of new (record { seen = z; rests = rests; sents = filled_at d (sents d ++ more) sents })) (option_map (seen m) store.slots)) reply) (sym memory) (filled_by P store.slots p steps rests sents);
+  }

@@ -10,6 +10,7 @@ ghost use Rattle.genie_kernel.specs.Good.{IsGood};
 ghost use Rattle.genie_kernel.specs.Handles.{HasHandles};
 ghost use Rattle.genie_kernel.specs.Kept.{Kept};
 ghost use Rattle.genie_kernel.specs.Searches.{IsFirst};
+ghost use Rattle.genie_changes.specs.Filling.{StepsFilled};
 ghost use Rattle.genie_kernel.specs.Steps.{StepsTold, DeviceCause};
 ghost use Rattle.genie_kernel.specs.View.{view, outline};
 ghost use Rattle.genie_kernel.specs.Calls.{waits_for};
@@ -74,6 +75,9 @@ pub fn send<H: Host>(kernel: &mut Kernel, host: &mut H, dev: u32, budget: u32) -
 
     // It is one step of the flat machine, whatever store of the kernel's pages is behind it.
     ensures step { (store : StoreView) → IsSized kernel.old.memory store → HasPages store → StepsTold (view kernel.old (H.view host.old) store) (event.Send dev budget) (view kernel.new (H.view host.new) store) result }
+
+    // So it is where the host tells some files and not others, over every bytes that the others may have.
+    ensures filled { (store : StoreView) → IsSized kernel.old.memory store → HasPages store → StepsFilled kernel.old (event.Send dev budget) kernel.new result (H.view host.old) (H.view host.new) store store }
     ensures cause { DeviceCause (mark_of result) ((H.view host.old).handle (output_of kernel.old.config dev)).faults ((H.view host.new).handle (output_of kernel.old.config dev)).faults }
 {
     work_laws();

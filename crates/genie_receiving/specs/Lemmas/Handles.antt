@@ -64,6 +64,13 @@ input_alone c host d handle h is =
           (same_or d j);
     }
 
+-- nor is an output's handle another output's
+pub outputs_alone : (c : Config) (host : HostView) (d handle : ℕ) → HasHandles c host → output_at (entry c.devices d) ≡ Some handle → (j : ℕ) → j ≢ d → output_at (entry c.devices j) ≢ Some handle
+outputs_alone c host d handle h is j apart e =
+    let most : times handle (handles c) ≤ 1 = once_each (handles c) h.apart handle in
+    let two = in_two handle c.devices d j (λ s. apart (sym s)) (as_output handle (entry c.devices d) is) (as_output handle (entry c.devices j) e) in
+    absurd (omega (arith, most, two))
+
 reading_of : (host : HostView) (o : Option DeviceConfig) (c : DeviceConfig) → o ≡ Some c → IfSome o (IsOpen host) → IsOpen host c
 reading_of host o c e h = subst (λ x. IfSome x (IsOpen host)) e h
 

@@ -34,6 +34,9 @@ use Rattle.genie_kernel.specs.Lemmas.OpenHandles.{handles_kept}
 use Rattle.genie_kernel.specs.Lemmas.Stepping.{accepted_step}
 use Rattle.genie_receiving.specs.Receiving.{Receives, IsReceived, ArePages, HasPages, input_of}
 use Rattle.genie_receiving.specs.Lemmas.Handles.{IsAlone, input_alone}
+use Rattle.std.proofs.Common.{append-nil}
+use Rattle.genie_changes.specs.Filling.{StepsFilled, filled_at}
+use Rattle.genie_changes.specs.Lemmas.Filling.{filled_same, filled_twice, none_sent}
 
 option_same : (before after : HostView) (h : ℕ) (o : Option ℕ) → o ≢ Some h → OthersKept h before.handle after.handle → told_at after o ≡ told_at before o
 option_same before after h None other kept = refl
@@ -177,6 +180,39 @@ module _ (d n : ℕ) (before after : HostView) (store : StoreView) (old new : Ke
   received_told pages = subst (λ (c : Config). StepsTold (view old before store) (Recv d n) (option_map (state_of new) (bytes_with (option_map (seen new.memory) store.slots) (rests_of after c) (sents_of after c))) r) (sym h.config)
       (told_steps store.slots (told before (map input_at old.config.devices)) (told before (map output_at old.config.devices)) pages refl refl)
 
+  -- over every bytes that the other files may have
+  filled_steps : (slots : Option (ℕ → List ℕ)) → IfSome slots (λ t. (s : ℕ) → s < store.count → length (t s) ≡ store.page) → (rests sents : ℕ → List ℕ) → (h.ended ≡ true → rests d ≡ [])
+      → StepsTold (option_map (λ (z : Seen). state_of old (record { seen = z; rests = filled_at d (h.taken ++ rests d) rests; sents = sents })) (option_map (seen old.memory) slots)) (Recv d n) (option_map (λ (z : Seen). state_of new (record { seen = z; rests = rests; sents = filled_at d (sents d ++ []) sents })) (option_map (seen new.memory) slots)) r
+  filled_steps None pages rests sents left = tt
+  filled_steps (Some slots) pages rests sents left =
+      let page : ℕ = old.memory.frames.page in
+      let more : ℕ → List ℕ = paged (length old.memory.slots) page slots in
+      let are : ArePages page more = are_paged (length old.memory.slots) page slots (λ s l. pages s (subst (λ c. s < c) (sym sized.count) l) ∙ sized.page) in
+      let first : ℕ → List ℕ = filled_at d (h.taken ++ rests d) rests in
+      let start : first d ≡ h.taken ++ rests d = ap (λ b. if b then h.taken ++ rests d else rests d) (eq-eqb d d refl) in
+      let steps = h.steps more first sents (rests d) are start left in
+      let was : seen old.memory more ≡ seen old.memory slots = seen_paged old.memory page slots good.sound in
+      let is : seen new.memory more ≡ seen new.memory slots = ap (λ (m : Memory). seen new.memory (paged (length m.slots) page slots)) (sym h.memory) ∙ seen_paged new.memory page slots h.good.sound in
+      let back : (λ j. if j == d then rests d else first j) ≡ rests = filled_twice d (h.taken ++ rests d) rests in
+      let same : filled_at d (sents d ++ []) sents ≡ sents = filled_same d sents (sents d ++ []) (append-nil (sents d)) in
+      let flat : Steps (state_of old (record { seen = seen old.memory slots; rests = first; sents = sents })) (Recv d n) (state_of new (record { seen = seen new.memory slots; rests = rests; sents = filled_at d (sents d ++ []) sents })) r =
+      subst (λ (z : ℕ → List ℕ). Steps (state_of old (record { seen = seen old.memory slots; rests = first; sents = sents })) (Recv d n) (state_of new (record { seen = seen new.memory slots; rests = rests; sents = z })) r) (sym same)
+      (subst (λ (z : ℕ → List ℕ). Steps (state_of old (record { seen = seen old.memory slots; rests = first; sents = sents })) (Recv d n) (state_of new (record { seen = seen new.memory slots; rests = z; sents = sents })) r) back
+      (subst (λ (z : Seen). Steps (state_of old (record { seen = z; rests = first; sents = sents })) (Recv d n) (state_of new (record { seen = seen new.memory slots; rests = λ j. if j == d then rests d else first j; sents = sents })) r) was
+      (subst (λ (z : Seen). Steps (state_of old (record { seen = seen old.memory more; rests = first; sents = sents })) (Recv d n) (state_of new (record { seen = z; rests = λ j. if j == d then rests d else first j; sents = sents })) r) is steps))) in
+      accepted_step old (record { seen = seen old.memory slots; rests = first; sents = sents }) (Recv d n) (state_of new (record { seen = seen new.memory slots; rests = rests; sents = filled_at d (sents d ++ []) sents })) r accepted flat
+
+  pub received_filled : HasPages store → StepsFilled old (Recv d n) new r before after store store
+  received_filled pages = record {
+    taken = h.taken;
+    sent = [];
+    ended = h.ended;
+    input = subst (λ (o : Option ℕ). Consumes (told_at before o) (told_at after o) h.taken) (sym alone.input) h.bytes;
+    output = none_sent (told_at before (output_at (entry old.config.devices d))) (told_at after (output_at (entry old.config.devices d))) (option_same before after (input_of old.config d) (output_at (entry old.config.devices d)) (alone.outputs d) h.only.others);
+    at_end = λ ended. subst (λ (o : Option ℕ). IsAtEnd (told_at after o)) (sym alone.input) (h.at_end ended);
+    steps = λ rests sents a b left. filled_steps store.slots pages rests sents left;
+  }
+
 -- so it is received
 pub is_received : (d n : ℕ) (before after : HostView) (old new : Kernel) (r : Reply) → IsGood old → refuse (outline old) (Recv d n) ≡ None → HasHandles old.config before → input_at (entry old.config.devices d) ≡ Some (input_of old.config d) → Receives d n before after old new r → IsReceived d n before after old new r
 is_received d n before after old new r good accepted handles input h = record {
@@ -185,6 +221,7 @@ is_received d n before after old new r good accepted handles input h = record {
   config = h.config;
   numbers = h.numbers;
   step = λ store sized pages. received_told d n before after store old new r good accepted (input_alone old.config before d (input_of old.config d) handles input) h sized pages;
+  filled = λ store sized pages. received_filled d n before after store old new r good accepted (input_alone old.config before d (input_of old.config d) handles input) h sized pages;
   sized = λ store sized. record { count = sized.count ∙ sym (ap (λ (m : Memory). length m.slots) h.memory); page = sized.page ∙ sym (ap (λ (m : Memory). m.frames.page) h.memory) };
   cause = h.cause;
   only = h.only;

@@ -1,4 +1,4 @@
-use Rattle.genie_sending.proofs.Serving.{idle_told, nothing_kept, served_cause, served_config, served_good, served_handles, served_kept, served_memory, served_numbers, served_only, served_step}
+use Rattle.genie_sending.proofs.Serving.{idle_told, idle_filled, nothing_kept, served_cause, served_config, served_good, served_handles, served_kept, served_memory, served_numbers, served_only, served_step, served_filled}
 use Rattle.genie_sending.proofs.send.send.Goals as goal
 
 pub returns-in-Some-clause-good : goal.returns-in-Some-clause-good
@@ -33,3 +33,9 @@ returns-in-None-clause-kept g c = nothing_kept c.args.kernel.now c.requires.good
 
 pub returns-in-None-clause-step : goal.returns-in-None-clause-step
 returns-in-None-clause-step g c = λ store sized pages. idle_told c.args.kernel.now c.args.dev c.args.budget (g.H.Host.view c.args.host.now) store c.requires.accepted (c.first.ensures.none c.in-None.is)
+
+pub returns-in-Some-clause-filled : goal.returns-in-Some-clause-filled
+returns-in-Some-clause-filled g c = served_filled c.work_laws.ensures c.args.kernel.now c.requires.good c.args.dev c.args.budget c.requires.accepted (g.H.Host.view c.args.host.now) (g.H.Host.view c.send_next.new.host) c.requires.handles c.send_next.new.kernel c.send_next.result c.send_next.ensures
+
+pub returns-in-None-clause-filled : goal.returns-in-None-clause-filled
+returns-in-None-clause-filled g c = λ store sized pages. idle_filled c.args.kernel.now c.args.dev c.args.budget (g.H.Host.view c.args.host.now) store c.requires.accepted (c.first.ensures.none c.in-None.is)
