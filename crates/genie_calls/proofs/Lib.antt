@@ -5,3 +5,4 @@ pub mod Serving
 pub mod Handles
 pub mod OfKinds
 mod Rising
+mod Filling

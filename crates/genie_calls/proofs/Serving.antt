@@ -36,6 +36,8 @@ use Rattle.genie_kernel.specs.Lemmas.OpenHandles.{others_kept}
 use Rattle.genie_kernel.specs.Lemmas.Rising.{rises_most, rises_none, rises_same}
 use Rattle.genie_kernel.specs.Lemmas.Stepping.{alone_told}
 use Rattle.genie_copying.specs.Bounds.{KeepsToBound}
+use Rattle.genie_changes.specs.Filling.{StepsFilled}
+use Rattle.genie_calls.proofs.Filling.{told_filled}
 use Rattle.genie_changes.specs.Paged.{IsPaged, PagedIsTold, StepsPaged}
 use Rattle.genie_arrivals.specs.Failing.{Serves}
 use Rattle.genie_arrivals.specs.Paging.{EndsPaged}
@@ -70,31 +72,32 @@ pub none_given : (old new : Kernel) → new.next ≡ old.next → new.next ≤ o
 none_given old new same = omega (arith, same)
 
 -- an event that touches nothing outside, and is told where host and store tell
-served_alone : (old new : Kernel) (e : Event) (r : Reply) (host : HostView) (v : StoreView) → IsGood old → IsGood new → Kept old new → new.config ≡ old.config → new.next ≤ old.next + 1 → MetersRise (2 ^ 36) old.memory.frames new.memory.frames → mark_of r ≡ NoFault → HasHandles old.config host → IsSized old.memory v → StepsTold (view old host v) e (view new host v) r → (IsTabled e → KeepsToBound old e new r) → Shares old e new r → Served old new e host host v v r
+served_alone : (old new : Kernel) (e : Event) (r : Reply) (host : HostView) (v : StoreView) → IsGood old → IsGood new → Kept old new → new.config ≡ old.config → new.next ≤ old.next + 1 → MetersRise (2 ^ 36) old.memory.frames new.memory.frames → mark_of r ≡ NoFault → HasHandles old.config host → IsSized old.memory v → ((h : HostView) → StepsTold (view old h v) e (view new h v) r) → (IsTabled e → KeepsToBound old e new r) → Shares old e new r → Served old new e host host v v r
 served_alone old new e r host v g good kept config numbers rises unfailed handles sized told copying sharing = record {
   good = good;
   sized = still_sized old new v g good config sized;
   kept = kept;
   config = config;
   numbers = numbers;
-  step = told;
+  step = told host;
   touches = untouched (touched_by old.config e) (mark_of r) host v unfailed;
   handles = subst (λ c. HasHandles c host) (sym config) handles;
   others = others_refl old.config host;
   rises = rises;
   copying = copying;
   sharing = sharing;
+  filled = told_filled old new e r host v v handles config told;
 }
 
 pub alone_served : (old new : Kernel) (e : Event) (r : Reply) → IsGood old → refuse (outline old) e ≡ None → IsGood new → Kept old new → new.config ≡ old.config → new.next ≡ old.next → new.memory.frames.meters ≡ old.memory.frames.meters → new.memory.frames.landed ≡ old.memory.frames.landed → mark_of r ≡ NoFault → StepsAlone old e new r → Shares old e new r → ServedAlone old e new r
-alone_served old new e r g h good kept config numbers meters landed unfailed steps sharing = λ host v handles sized paged. served_alone old new e r host v g good kept config (none_given old new numbers) (rises_same (2 ^ 36) old.memory.frames new.memory.frames meters landed) unfailed handles sized (alone_told old new e r host v h config steps) (copies_nothing old new e r meters) sharing
+alone_served old new e r g h good kept config numbers meters landed unfailed steps sharing = λ host v handles sized paged. served_alone old new e r host v g good kept config (none_given old new numbers) (rises_same (2 ^ 36) old.memory.frames new.memory.frames meters landed) unfailed handles sized (λ z. alone_told old new e r z v h config steps) (copies_nothing old new e r meters) sharing
 
 -- the same of an event that may touch the store, and doesn't
 pub alone_by_store : (old new : Kernel) (e : Event) (r : Reply) (v : StoreView) → IsGood old → refuse (outline old) e ≡ None → IsSized old.memory v → IsGood new → Kept old new → new.config ≡ old.config → new.next ≡ old.next → new.memory.frames.meters ≡ old.memory.frames.meters → new.memory.frames.landed ≡ old.memory.frames.landed → mark_of r ≡ NoFault → StepsAlone old e new r → Shares old e new r → ServedByStore old e new v v r
-alone_by_store old new e r v g h sized good kept config numbers meters landed unfailed steps sharing = λ host handles. served_alone old new e r host v g good kept config (none_given old new numbers) (rises_same (2 ^ 36) old.memory.frames new.memory.frames meters landed) unfailed handles sized (alone_told old new e r host v h config steps) (copies_nothing old new e r meters) sharing
+alone_by_store old new e r v g h sized good kept config numbers meters landed unfailed steps sharing = λ host handles. served_alone old new e r host v g good kept config (none_given old new numbers) (rises_same (2 ^ 36) old.memory.frames new.memory.frames meters landed) unfailed handles sized (λ z. alone_told old new e r z v h config steps) (copies_nothing old new e r meters) sharing
 
 pub paged_served : PagedIsTold → (old new : Kernel) (e : Event) (r : Reply) → IsGood old → refuse (outline old) e ≡ None → IsGood new → Kept old new → new.config ≡ old.config → new.next ≡ old.next → new.memory.frames.meters ≡ old.memory.frames.meters → new.memory.frames.landed ≡ old.memory.frames.landed → mark_of r ≡ NoFault → StepsPaged old e new r → Shares old e new r → ServedAlone old e new r
-paged_served law old new e r g h good kept config numbers meters landed unfailed steps sharing = λ host v handles sized paged. served_alone old new e r host v g good kept config (none_given old new numbers) (rises_same (2 ^ 36) old.memory.frames new.memory.frames meters landed) unfailed handles sized (law old new e r host v h config sized paged steps) (copies_nothing old new e r meters) sharing
+paged_served law old new e r g h good kept config numbers meters landed unfailed steps sharing = λ host v handles sized paged. served_alone old new e r host v g good kept config (none_given old new numbers) (rises_same (2 ^ 36) old.memory.frames new.memory.frames meters landed) unfailed handles sized (λ z. law old new e r z v h config sized paged steps) (copies_nothing old new e r meters) sharing
 
 -- an event that may touch the store
 pub store_served : (old new : Kernel) (e : Event) (v w : StoreView) (r : Reply) → touched_by old.config e ≡ TheStore → IsGood new → IsSized new.memory w → Kept old new → new.config ≡ old.config → new.next ≤ old.next + 1 → MetersRise (2 ^ 36) old.memory.frames new.memory.frames → ((host : HostView) → StepsTold (view old host v) e (view new host w) r) → StoreCause (mark_of r) v.faults w.faults → (IsTabled e → KeepsToBound old e new r) → Shares old e new r → ServedByStore old e new v w r
@@ -111,6 +114,7 @@ store_served old new e v w r outside good sized kept config numbers rises told c
   rises = rises;
   copying = copying;
   sharing = sharing;
+  filled = told_filled old new e r host v w handles config told;
 }
 
 -- a refusal
@@ -142,11 +146,11 @@ refused_shares k (event.Finish n) x = tt
 refused_shares k (event.Cancel n) x = tt
 
 pub refused_served : (k : Kernel) (e : Event) (x : Refusal) → IsGood k → refuse (outline k) e ≡ Some x → ServedAlone k e k (reply.Err x)
-refused_served k e x g h = λ host v handles sized paged. served_alone k k e (reply.Err x) host v g g (calls_kept k k.memory g (keeps_all k.memory)) refl (none_given k k refl) (rises_none (2 ^ 36) k.memory.frames k.memory.frames refl) refl handles sized (refused_told k e x h v.slots (rests_of host k.config) (sents_of host k.config)) (copies_nothing k k e (reply.Err x) refl) (refused_shares k e x)
+refused_served k e x g h = λ host v handles sized paged. served_alone k k e (reply.Err x) host v g g (calls_kept k k.memory g (keeps_all k.memory)) refl (none_given k k refl) (rises_none (2 ^ 36) k.memory.frames k.memory.frames refl) refl handles sized (λ z. refused_told k e x h v.slots (rests_of z k.config) (sents_of z k.config)) (copies_nothing k k e (reply.Err x) refl) (refused_shares k e x)
 
 -- an event that touches the handle of its device
-pub host_served : (old new : Kernel) (e : Event) (h : ℕ) (before after : HostView) (r : Reply) → touched_by old.config e ≡ TheHandle h → list_any (λ g. g == h) (handles old.config) ≡ true → IsGood old → IsGood new → Kept old new → new.config ≡ old.config → new.next ≡ old.next → MetersRise (2 ^ 36) old.memory.frames new.memory.frames → new.memory.frames.meters ≡ old.memory.frames.meters → OnlyHandle h before after → HasHandles new.config after → ((v : StoreView) → IsSized old.memory v → IsPaged v → StepsTold (view old before v) e (view new after v) r) → DeviceCause (mark_of r) (before.handle h).faults (after.handle h).faults → Shares old e new r → ServedByHost old e new before after r
-host_served old new e h before after r outside named g good kept config numbers rises meters only opened told cause sharing = λ v sized paged. record {
+pub host_served : (old new : Kernel) (e : Event) (h : ℕ) (before after : HostView) (r : Reply) → touched_by old.config e ≡ TheHandle h → list_any (λ g. g == h) (handles old.config) ≡ true → IsGood old → IsGood new → Kept old new → new.config ≡ old.config → new.next ≡ old.next → MetersRise (2 ^ 36) old.memory.frames new.memory.frames → new.memory.frames.meters ≡ old.memory.frames.meters → OnlyHandle h before after → HasHandles new.config after → ((v : StoreView) → IsSized old.memory v → IsPaged v → StepsTold (view old before v) e (view new after v) r) → DeviceCause (mark_of r) (before.handle h).faults (after.handle h).faults → Shares old e new r → ((v : StoreView) → IsSized old.memory v → IsPaged v → StepsFilled old e new r before after v v) → ServedByHost old e new before after r
+host_served old new e h before after r outside named g good kept config numbers rises meters only opened told cause sharing filled = λ v sized paged. record {
   good = good;
   sized = still_sized old new v g good config sized;
   kept = kept;
@@ -159,6 +163,7 @@ host_served old new e h before after r outside named g good kept config numbers 
   rises = rises;
   copying = copies_nothing old new e r meters;
   sharing = sharing;
+  filled = filled v sized paged;
 }
 
 -- of the event as it was matched
@@ -174,7 +179,7 @@ module _ (old new : Kernel) (e f : Event) (r : Reply) (is : e ≡ f) where
 
 -- the end of an input that touches nothing outside, and one that may touch the store
 pub paged_by_store : PagedIsTold → (old new : Kernel) (n : ℕ) (r : Reply) (v : StoreView) → IsGood old → refuse (outline old) (Finish n) ≡ None → IsSized old.memory v → IsPaged v → EndsPaged old n new r → ServedByStore old (Finish n) new v v r
-paged_by_store law old new n r v g h sized paged ends = λ host handles. served_alone old new (Finish n) r host v g ends.good ends.kept ends.config (none_given old new ends.numbers) (rises_most (2 ^ 35) (2 ^ 36) old.memory.frames new.memory.frames (omega arith) ends.rises) ends.unfailed handles sized (law old new (Finish n) r host v h ends.config sized paged ends.step) (λ tabled. absurd tabled) tt
+paged_by_store law old new n r v g h sized paged ends = λ host handles. served_alone old new (Finish n) r host v g ends.good ends.kept ends.config (none_given old new ends.numbers) (rises_most (2 ^ 35) (2 ^ 36) old.memory.frames new.memory.frames (omega arith) ends.rises) ends.unfailed handles sized (λ z. law old new (Finish n) r z v h ends.config sized paged ends.step) (λ tabled. absurd tabled) tt
 
 pub ends_by_store : (old new : Kernel) (n : ℕ) (r : Reply) (v w : StoreView) → Serves old (Finish n) new v w r → ServedByStore old (Finish n) new v w r
 ends_by_store old new n r v w ends = store_served old new (Finish n) v w r refl ends.good ends.sized ends.kept ends.config (none_given old new ends.numbers) ends.rises ends.step ends.cause (λ tabled. absurd tabled) tt

@@ -23,6 +23,7 @@ use Rattle.genie_kernel.specs.Steps.{StepsTold, DeviceCause, StoreCause}
 use Rattle.genie_kernel.specs.Told.{input_at, output_at}
 use Rattle.genie_kernel.specs.View.{view}
 use Rattle.genie_copying.specs.Bounds.{KeepsToBound}
+use Rattle.genie_changes.specs.Filling.{StepsFilled}
 use Rattle.genie_changes.specs.Paged.{IsPaged}
 use Rattle.genie_calls.specs.Sharing.{Shares}
 
@@ -73,7 +74,8 @@ IsTabled e = ⊤
 
 -- the kernel is good over a store of its size, and keeps what is lent and its configuration; what it stands for and the
 -- reply are those of the flat machine's step; a failure has its cause, and the handles stay open; one number at most is given
--- out; the meters rise by so much at most, no more is copied than the table allows, and what may be shared is
+-- out; the meters rise by so much at most, no more is copied than the table allows, and what may be shared is; over bytes that the host
+-- doesn't tell it is a step too, whatever they are
 pub record Served (old new : Kernel) (e : Event) (before after : HostView) (v w : StoreView) (reply : Reply) : Type 0 where
   pub good : IsGood new
   pub sized : IsSized new.memory w
@@ -87,6 +89,7 @@ pub record Served (old new : Kernel) (e : Event) (before after : HostView) (v w 
   pub rises : MetersRise (2 ^ 36) old.memory.frames new.memory.frames
   pub copying : IsTabled e → KeepsToBound old e new reply
   pub sharing : Shares old e new reply
+  pub filled : StepsFilled old e new reply before after v w
 
 -- so it is of an event that touches neither the host nor the store, whatever they are
 abbrev pub ServedAlone : Kernel → Event → Kernel → Reply → Type 0

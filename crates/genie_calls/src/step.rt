@@ -10,6 +10,7 @@ ghost use Rattle.genie_kernel.specs.Kept.{Kept};
 ghost use Rattle.genie_kernel.specs.Rising.{MetersRise};
 ghost use Rattle.genie_kernel.specs.Steps.{StepsTold};
 ghost use Rattle.genie_kernel.specs.View.{outline, view};
+ghost use Rattle.genie_changes.specs.Filling.{StepsFilled};
 ghost use Rattle.genie_copying.specs.Bounds.{KeepsToBound};
 ghost use Rattle.genie_calls.specs.Serving.{IsTabled, Served, Touches, touched_by};
 ghost use Rattle.genie_calls.specs.Sharing.{Shares};
@@ -139,6 +140,10 @@ pub fn step<'a, H: Host, S: Store>(
     // An event gives out one number of a transfer at most.
     ensures numbers { kernel.new.next ≤ kernel.old.next + 1 }
     ensures step { StepsTold (view kernel.old (H.view host.old) (S.view store.old)) event.now (view kernel.new (H.view host.new) (S.view store.new)) result }
+
+    // What the host tells of one file is used, whatever it tells of the others: the step is the flat machine's over every
+    // bytes that these may have.
+    ensures filled { StepsFilled kernel.old event.now kernel.new result (H.view host.old) (H.view host.new) (S.view store.old) (S.view store.new) }
 
     // A failure is shown only where the count of faults of the store, or of the device's handle, rose in this step.
     ensures causes { Touches (touched_by kernel.old.config event.now) (mark_of result) (H.view host.old) (H.view host.new) (S.view store.old) (S.view store.new) }
