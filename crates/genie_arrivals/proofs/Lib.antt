@@ -47,4 +47,8 @@ mod MoveLanded
 mod MoveAim
 mod MoveCases
 mod MoveEnds
+mod EarlyCosts
+mod EarlyCostsHeld
+mod EarlyCostsCounting
+mod EarlyCostsBound
 mod PooledMoveEnds

@@ -19,3 +19,4 @@ pub mod PooledRoom
 pub mod Outboard
 pub mod OutboardMove
 pub mod FreshStored
+pub mod EarlyCosts

@@ -10,7 +10,10 @@ ghost use Rattle.genie_model.specs.Refusing.{refuse};
 ghost use Rattle.genie_kernel.specs.Good.{IsGood};
 ghost use Rattle.genie_kernel.specs.Rising.{MetersRise};
 ghost use Rattle.genie_changes.specs.Making.{IsMoved};
+ghost use Rattle.genie_copying.specs.Bounds.{KeepsToBound};
+ghost use Rattle.genie_copying.specs.Spending.{CopiesAtMost};
 ghost use Rattle.genie_arrivals.specs.Cases.{IsEarlyInput};
+ghost use Rattle.genie_arrivals.specs.EarlyCosts.{HoldsNoMore, few_of, ready_work};
 ghost use Rattle.genie_kernel.specs.View.{outline};
 ghost use Rattle.genie_arrivals.specs.Ends.{EndsAlone};
 ghost use Rattle.genie_arrivals.specs.Failing.{Serves};
@@ -23,6 +26,7 @@ use crate::store::store_buffer;
 use crate::target::find_target;
 use genie_base::{Reply, Semantics, TransferId};
 use genie_changes::settled::paged_events_are_told;
+use genie_finish::laws::whole_pages_cost_nothing;
 use genie_finish::ready_range;
 use genie_kernel::laws::accepted_events_step;
 use genie_kernel::{Kernel, Loans};
@@ -48,6 +52,8 @@ fn make_ready<S: Store>(
     ensures meters { AreBelow (2 ^ 63 + 2 ^ 22) kernel.new.memory.frames.meters }
     ensures rises { MetersRise (2 ^ 22) kernel.old.memory.frames kernel.new.memory.frames }
     ensures cause { HasCause (S.view store.old).faults (S.view store.new).faults result }
+    ensures copies { CopiesAtMost (ready_work kernel.old.memory range.now.object.0 range.now.off range.now.len) kernel.old.memory kernel.new.memory }
+    ensures held { HoldsNoMore kernel.old.memory kernel.new.memory }
 {
     copy_laws();
     let page = kernel.spaces.page().get();
@@ -62,7 +68,9 @@ fn make_ready<S: Store>(
 }
 
 // At most so many bytes of a page are copied out, and more are swapped in: all parts of pages in a basic call.
-pub(crate) fn few_bytes(kernel: &Kernel, sem: Semantics) -> u32 {
+pub(crate) fn few_bytes(kernel: &Kernel, sem: Semantics) -> u32
+    ensures { result ≡ few_of kernel.now.config sem }
+{
     if sem.emulated() {
         kernel.config.rcout
     } else {
@@ -83,12 +91,14 @@ fn store_copy<S: Store>(
     requires accepted { refuse (outline kernel.old) (event.Finish id.0) ≡ None }
     requires case { IsEarlyInput Copy kernel.old id.0 }
     requires target { IsTargetOf kernel.old id.0 range.now }
-    ensures { Serves kernel.old (event.Finish id.0) kernel.new (S.view store.old) (S.view store.new) result }
+    ensures serves { Serves kernel.old (event.Finish id.0) kernel.new (S.view store.old) (S.view store.new) result }
+    ensures copying { KeepsToBound kernel.old (event.Finish id.0) kernel.new result }
 {
     end_laws();
     copy_laws();
     swap_laws();
     paged_events_are_told();
+    whole_pages_cost_nothing();
     match make_ready(kernel, store, id, range) {
         Ok(()) => {}
         Err(_) => return Reply::StoreFault,
@@ -141,7 +151,10 @@ pub fn finish_copy_early<S: Store>(
     requires meters { AreBelow (2 ^ 63) kernel.old.memory.frames.meters }
     requires accepted { refuse (outline kernel.old) (event.Finish id.0) ≡ None }
     requires case { IsEarlyInput Copy kernel.old id.0 }
-    ensures { Serves kernel.old (event.Finish id.0) kernel.new (S.view store.old) (S.view store.new) result }
+    ensures serves { Serves kernel.old (event.Finish id.0) kernel.new (S.view store.old) (S.view store.new) result }
+
+    // What the processor copies keeps to the table.
+    ensures copying { KeepsToBound kernel.old (event.Finish id.0) kernel.new result }
 {
     accepted_events_step();
     match find_target(kernel, id) {

@@ -5,6 +5,7 @@ ghost use Rattle.genie_object.specs.Leaving.{IsUnheld};
 ghost use Rattle.genie_object.specs.Objects.{object_at};
 ghost use Rattle.genie_object.specs.Sound.{IsSound};
 ghost use Rattle.genie_plan.specs.Plans.{input_frames};
+ghost use Rattle.genie_copying.specs.Spending.{CopiesAtMost};
 ghost use Rattle.genie_arrivals.specs.Clearing.{ClearsObject, FillsObject};
 ghost use Rattle.genie_arrivals.specs.Stored.{CanStoreBuffer};
 
@@ -21,7 +22,8 @@ pub(crate) fn fill_object(memory: &mut Memory, object: ObjectId, loans: &[InLoan
     requires there { object_at memory.old.objects object.0 ≢ [] }
     requires unheld { (i : ℕ) → IsUnheld memory.old object.0 i }
     requires can { (m : MemoryView) → ClearsObject memory.old m object.0 → CanStoreBuffer m object.0 0 len 0 (input_frames loans.now) }
-    ensures { FillsObject memory.old memory.new object.0 len (input_frames loans.now) }
+    ensures fills { FillsObject memory.old memory.new object.0 len (input_frames loans.now) }
+    ensures copies { CopiesAtMost memory.old.frames.page memory.old memory.new }
 {
     clear_object(memory, object);
     let range = Range {

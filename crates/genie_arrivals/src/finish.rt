@@ -13,6 +13,7 @@ ghost use Rattle.genie_kernel.specs.Kept.{Kept};
 ghost use Rattle.genie_kernel.specs.Rising.{MetersRise};
 ghost use Rattle.genie_kernel.specs.Steps.{StepsTold, StoreCause};
 ghost use Rattle.genie_kernel.specs.View.{view, outline};
+ghost use Rattle.genie_copying.specs.Bounds.{KeepsToBound};
 ghost use Rattle.genie_arrivals.specs.Cases.{IsOnEarly};
 ghost use Rattle.genie_arrivals.specs.Failing.{Serves};
 
@@ -44,7 +45,8 @@ fn finish_by_class<S: Store>(kernel: &mut Kernel, store: &mut S, id: TransferId)
     requires meters { AreBelow (2 ^ 63) kernel.old.memory.frames.meters }
     requires accepted { refuse (outline kernel.old) (event.Finish id.0) ≡ None }
     requires case { IsOnEarly kernel.old id.0 }
-    ensures { Serves kernel.old (event.Finish id.0) kernel.new (S.view store.old) (S.view store.new) result }
+    ensures serves { Serves kernel.old (event.Finish id.0) kernel.new (S.view store.old) (S.view store.new) result }
+    ensures copying { KeepsToBound kernel.old (event.Finish id.0) kernel.new result }
 {
     accepted_events_step();
     paged_events_are_told();
@@ -77,6 +79,9 @@ pub fn finish_input_early<S: Store>(
     ensures numbers { kernel.new.next ≡ kernel.old.next }
     ensures step { (host : HostView) → StepsTold (view kernel.old host (S.view store.old)) (event.Finish id.0) (view kernel.new host (S.view store.new)) result }
     ensures cause { StoreCause (mark_of result) (S.view store.old).faults (S.view store.new).faults }
+
+    // What the processor copies keeps to the table.
+    ensures copying { KeepsToBound kernel.old (event.Finish id.0) kernel.new result }
     ensures rises { MetersRise (2 ^ 36) kernel.old.memory.frames kernel.new.memory.frames }
 {
     finish_by_class(kernel, store, id)

@@ -6,6 +6,7 @@ ghost use Rattle.genie_object.specs.Costs.{AreBelow};
 ghost use Rattle.genie_model.specs.Refusing.{refuse};
 ghost use Rattle.genie_kernel.specs.Good.{IsGood};
 ghost use Rattle.genie_kernel.specs.View.{outline};
+ghost use Rattle.genie_copying.specs.Bounds.{KeepsToBound};
 ghost use Rattle.genie_arrivals.specs.Cases.{IsEarlyInput};
 ghost use Rattle.genie_arrivals.specs.Paging.{EndsPaged};
 
@@ -26,7 +27,10 @@ pub fn finish_move_early(kernel: &mut Kernel, id: TransferId) -> Reply<'static>
     requires meters { AreBelow (2 ^ 63) kernel.old.memory.frames.meters }
     requires accepted { refuse (outline kernel.old) (event.Finish id.0) ≡ None }
     requires case { IsEarlyInput Move kernel.old id.0 }
-    ensures { EndsPaged kernel.old id.0 kernel.new result }
+    ensures ends { EndsPaged kernel.old id.0 kernel.new result }
+
+    // What the processor copies keeps to the table.
+    ensures copying { KeepsToBound kernel.old (event.Finish id.0) kernel.new result }
 {
     end_laws();
     change_laws();

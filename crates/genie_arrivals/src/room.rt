@@ -2,12 +2,15 @@
 ghost use Rattle.std.specs.Prelude.{◌≡◌, ◌≤◌, ◌+◌, ◌^◌, count_by, OnOk};
 ghost use Rattle.genie_base.specs.Causes.{HasCause};
 ghost use Rattle.genie_frame.specs.FrameTable.{is_free};
+ghost use Rattle.genie_hiding.specs.Hidden.{objects_of};
 ghost use Rattle.genie_hiding.specs.Rooms.{available};
 ghost use Rattle.genie_object.specs.Costs.{AreBelow};
 ghost use Rattle.genie_object.specs.Sound.{IsSized};
 ghost use Rattle.genie_kernel.specs.Good.{IsGood};
 ghost use Rattle.genie_kernel.specs.Rising.{MetersRise};
 ghost use Rattle.genie_changes.specs.Making.{IsMoved};
+ghost use Rattle.genie_copying.specs.Spending.{CopiesAtMost, NoDearer};
+ghost use Rattle.genie_arrivals.specs.EarlyCosts.{HoldsNoMore};
 
 use genie_changes::making::memory_moves;
 use genie_kernel::Kernel;
@@ -31,6 +34,9 @@ pub(crate) fn make_frames<S: Store>(
     ensures rises { MetersRise (2 ^ 20) kernel.old.memory.frames kernel.new.memory.frames }
     ensures landed { kernel.new.memory.frames.landed ≡ kernel.old.memory.frames.landed }
     ensures cause { HasCause (S.view store.old).faults (S.view store.new).faults result }
+    ensures copies { CopiesAtMost 0 kernel.old.memory kernel.new.memory }
+    ensures costs { NoDearer (objects_of kernel.old.hidden) kernel.old.memory kernel.new.memory }
+    ensures held { HoldsNoMore kernel.old.memory kernel.new.memory }
 {
     places_suffice();
     memory_moves();

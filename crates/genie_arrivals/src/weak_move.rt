@@ -5,6 +5,7 @@ ghost use Rattle.genie_base.specs.declared.semantics.Class.TheVariants.{WeakMove
 ghost use Rattle.genie_model.specs.Refusing.{refuse};
 ghost use Rattle.genie_kernel.specs.Good.{IsGood};
 ghost use Rattle.genie_kernel.specs.View.{outline};
+ghost use Rattle.genie_copying.specs.Bounds.{KeepsToBound};
 ghost use Rattle.genie_arrivals.specs.Cases.{IsEarlyInput};
 ghost use Rattle.genie_arrivals.specs.Ends.{EndsAlone};
 
@@ -22,7 +23,10 @@ pub fn finish_weak_move_early(kernel: &mut Kernel, id: TransferId) -> Reply<'sta
     requires good { IsGood kernel.old }
     requires accepted { refuse (outline kernel.old) (event.Finish id.0) ≡ None }
     requires case { IsEarlyInput WeakMove kernel.old id.0 }
-    ensures { EndsAlone kernel.old id.0 kernel.new result }
+    ensures ends { EndsAlone kernel.old id.0 kernel.new result }
+
+    // What the processor copies keeps to the table.
+    ensures copying { KeepsToBound kernel.old (event.Finish id.0) kernel.new result }
 {
     end_laws();
     change_laws();

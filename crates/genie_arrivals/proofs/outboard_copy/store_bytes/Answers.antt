@@ -41,7 +41,7 @@ returns c =
     let fs : List ℕ = input_frames p.loans.items in
     let u : FrameTable = c.land_bytes.new.frames in
     let new : Memory = c.store_buffer.new.memory in
-    let one = subst (λ (l : List InLoan). StoresBuffer (record a { frames = u }) new o off c.args.range.now.len (input_frames l)) c.as_slice.ensures.value c.store_buffer.ensures in
+    let one = subst (λ (l : List InLoan). StoresBuffer (record a { frames = u }) new o off c.args.range.now.len (input_frames l)) c.as_slice.ensures.value c.store_buffer.ensures.stores in
     let two = subst (λ (z : Memory). StoresBuffer z new o off c.args.range.now.len fs) (with_frames u) one in
     let three = subst (λ (l : ℕ). StoresBuffer (record m { frames = u }) new o off l fs) (sym e.len) two in
     let few : length fs ≤ 2 ^ 33 = omega (arith, e.number, c.requires.can.most) in

@@ -1,5 +1,8 @@
 use Rattle.std.proofs.Common.{◌^◌, arith}
 use Rattle.genie_kernel.specs.Lemmas.Rising.{rises_moved}
+use Rattle.genie_copying.specs.Lemmas.Making.{room_no_dearer}
+use Rattle.genie_hiding.specs.Hidden.{objects_of}
+use Rattle.genie_arrivals.proofs.EarlyCostsHeld.{holds_no_more}
 use Rattle.genie_arrivals.proofs.room.make_frames.Goals as goal
 
 pub returns-in-Ok-clause-moved : goal.returns-in-Ok-clause-moved
@@ -13,3 +16,15 @@ returns-in-Ok-clause-rises g c = rises_moved 0 0 8192 0 (2 ^ 20) c.args.kernel.n
 
 pub returns-in-Err-clause-rises : goal.returns-in-Err-clause-rises
 returns-in-Err-clause-rises g c = rises_moved 0 0 8192 0 (2 ^ 20) c.args.kernel.now.memory.frames c.make_room.new.memory.frames c.make_room.ensures.meters c.make_room.ensures.room.landed (omega arith)
+
+pub returns-in-Ok-clause-costs : goal.returns-in-Ok-clause-costs
+returns-in-Ok-clause-costs g c = room_no_dearer (objects_of c.args.kernel.now.hidden) c.args.kernel.now.memory c.make_room.new.memory (g.S.Store.view c.args.store.now) (g.S.Store.view c.make_room.new.store) c.requires.good.sound c.make_room.ensures.room
+
+pub returns-in-Ok-clause-held : goal.returns-in-Ok-clause-held
+returns-in-Ok-clause-held g c = holds_no_more c.args.kernel.now.memory c.make_room.new.memory c.requires.good.sound c.make_room.ensures.room.sound c.make_room.ensures.room.keeps c.make_room.ensures.room.counts
+
+pub returns-in-Err-clause-costs : goal.returns-in-Err-clause-costs
+returns-in-Err-clause-costs g c = room_no_dearer (objects_of c.args.kernel.now.hidden) c.args.kernel.now.memory c.make_room.new.memory (g.S.Store.view c.args.store.now) (g.S.Store.view c.make_room.new.store) c.requires.good.sound c.make_room.ensures.room
+
+pub returns-in-Err-clause-held : goal.returns-in-Err-clause-held
+returns-in-Err-clause-held g c = holds_no_more c.args.kernel.now.memory c.make_room.new.memory c.requires.good.sound c.make_room.ensures.room.sound c.make_room.ensures.room.keeps c.make_room.ensures.room.counts

@@ -16,6 +16,7 @@ use Rattle.genie_arrivals.proofs.Lent.{can_give_back}
 use Rattle.genie_arrivals.proofs.Moving.{is_had, low_address, moves_quietly}
 use Rattle.genie_arrivals.proofs.Quiet.{ends_quietly}
 use Rattle.genie_arrivals.proofs.Replying.{gone_finish, weak_lost}
+use Rattle.genie_arrivals.proofs.EarlyCosts.{alone_keeps, back_keeps}
 use Rattle.genie_arrivals.proofs.weak_move.finish_weak_move_early.Goals as goal
 
 pub remove-transfer-requires : goal.remove-transfer-requires
@@ -24,8 +25,8 @@ remove-transfer-requires c = found_some c.args.kernel.now c.args.id.0 c.requires
 pub give_back-requires : goal.give_back-requires
 give_back-requires c = can_give_back c.args.kernel.now c.args.id.0 c.remove-transfer.result c.requires.good c.remove-transfer.ensures.removed (found_case (IsInputOf WeakMove c.args.kernel.now.devices) c.args.kernel.now c.args.id.0 c.remove-transfer.result c.requires.case c.remove-transfer.ensures.removed).inward
 
-pub returns-in-None : goal.returns-in-None
-returns-in-None c =
+pub returns-in-None-clause-ends : goal.returns-in-None-clause-ends
+returns-in-None-clause-ends c =
     let k : Kernel = c.args.kernel.now in
     let t : Transfer = c.remove-transfer.result in
     let found = c.remove-transfer.ensures.removed in
@@ -33,8 +34,8 @@ returns-in-None c =
     let after : List Transfer → Kernel = λ ts. record k { memory = record (k.memory) { frames = c.give_back.new.frames }; transfers = ts } in
     subst (λ (ts : List Transfer). EndsAlone k c.args.id.0 (after ts) reply.Gone) (sym c.remove-transfer.ensures.others) (ends_quietly c.end_laws.ensures k c.args.id.0 t c.requires.good found (found_over k c.args.id.0 t c.requires.accepted found) c.give_back.new.frames c.len.ensures.shaped c.len.ensures.lent c.give_back.ensures is.early reply.Gone refl (λ b. gone_finish k b c.args.id.0 t found c.in-None.is) c.requires.accepted)
 
-pub returns-in-None-named_region : goal.returns-in-None-named_region
-returns-in-None-named_region c =
+pub returns-in-None-named_region-clause-ends : goal.returns-in-None-named_region-clause-ends
+returns-in-None-named_region-clause-ends c =
     let k : Kernel = c.args.kernel.now in
     let t : Transfer = c.remove-transfer.result in
     let found = c.remove-transfer.ensures.removed in
@@ -55,8 +56,8 @@ overflow_mul-result c =
     let low = low_address c.args.kernel.now o.pid c.get-page.result had.regions o.region c.requires.good had.there (find_has (has_id o.region.id.0) had.regions o.region had.found).0 (c.get-page.ensures.number ∙ c.page.ensures ∙ c.requires.good.spaced.page) in
     omega (arith, low)
 
-pub returns-in-Some-named_region : goal.returns-in-Some-named_region
-returns-in-Some-named_region c =
+pub returns-in-Some-named_region-clause-ends : goal.returns-in-Some-named_region-clause-ends
+returns-in-Some-named_region-clause-ends c =
     let k : Kernel = c.args.kernel.now in
     let t : Transfer = c.remove-transfer.result in
     let o = c.in-Some-named_region.owned in
@@ -69,3 +70,12 @@ returns-in-Some-named_region c =
     let same : c.make_live.new.kernel ≡ lively (after (without (has_number c.args.id.0) k.transfers)) o.pid o.region.id.0 had.regions = c.make_live.ensures ∙ (λ i. lively (after (c.remove-transfer.ensures.others i)) o.pid o.region.id.0 (regions i)) in
     let ended = moves_quietly c.end_laws.ensures c.change_laws.ensures k c.args.id.0 c.in-Some.field-0 t o c.requires.good found (found_over k c.args.id.0 t c.requires.accepted found) c.give_back.new.frames c.len.ensures.shaped c.len.ensures.lent c.give_back.ensures is c.in-Some.is had c.requires.accepted in
     subst (λ (x : Kernel). EndsAlone k c.args.id.0 x (reply.Input (Some (o.region.start * c.get-page.result)) t.stored t.note)) (sym same) (subst (λ (z : ℕ). EndsAlone k c.args.id.0 (lively (after (without (has_number c.args.id.0) k.transfers)) o.pid o.region.id.0 had.regions) (reply.Input (Some (o.region.start * z)) t.stored t.note)) (sym page) ended)
+
+pub returns-in-None-clause-copying : goal.returns-in-None-clause-copying
+returns-in-None-clause-copying c = back_keeps c.args.kernel.now c.give_back.new.frames c.args.id.0 reply.Gone c.remove-transfer.result c.give_back.ensures
+
+pub returns-in-None-named_region-clause-copying : goal.returns-in-None-named_region-clause-copying
+returns-in-None-named_region-clause-copying c = back_keeps c.args.kernel.now c.give_back.new.frames c.args.id.0 reply.Lost c.remove-transfer.result c.give_back.ensures
+
+pub returns-in-Some-named_region-clause-copying : goal.returns-in-Some-named_region-clause-copying
+returns-in-Some-named_region-clause-copying c = alone_keeps c.args.kernel.now c.make_live.new.kernel c.args.id.0 (reply.Input (Some (c.in-Some-named_region.owned.region.start * c.get-page.result)) c.remove-transfer.result.stored c.remove-transfer.result.note) (returns-in-Some-named_region-clause-ends c).meters
