@@ -1,12 +1,12 @@
 -- An event that leaves the host as it is, over every bytes of the devices' files.
-use Rattle.std.proofs.Common.{◌≡◌, ◌≢◌, ℕ, ◌+◌, ◌<◌, ◌≤◌, zero, suc, Bool, true, false, List, [], ◌∷◌, refl, sym, ap, subst, arith, ◌∙◌, ⊎_elim, length, get_or, map, eqb-true, eq-eqb, rules}
+use Rattle.std.proofs.Common.{◌≡◌, ◌≢◌, ℕ, ◌+◌, ◌<◌, ◌≤◌, zero, suc, true, false, List, [], ◌∷◌, refl, sym, ap, subst, arith, ◌∙◌, length, get_or, map, eqb-true, eq-eqb}
 use Rattle.std.specs.Prelude.{Option, Some, None, ◌==◌, if◌then◌else◌, option_and_then}
 use Rattle.std.specs.Option.{option_map}
 use Rattle.genie_base.specs.declared.config.Config.{Config}
 use Rattle.genie_base.specs.declared.config.DeviceConfig.{DeviceConfig}
 use Rattle.genie_base.specs.declared.event.Event.{Event}
 use Rattle.genie_base.specs.declared.reply.Reply.{Reply}
-use Rattle.genie_host.specs.Host.{HandleState, HostView, Closed}
+use Rattle.genie_host.specs.Host.{HostView, Closed}
 use Rattle.genie_store.specs.StoreView.{StoreView}
 use Rattle.genie_object.specs.Memory.{Seen, seen_with}
 use Rattle.genie_model.specs.State.{State}

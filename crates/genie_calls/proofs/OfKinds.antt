@@ -1,6 +1,6 @@
 -- What is so of devices of a kind, and of the transfers on them.
-use Rattle.std.proofs.Common.{◌≡◌, ℕ, ◌<◌, zero, suc, true, not, List, [], ◌∷◌, refl, sym, ap, subst, ◌∙◌, arith, length}
-use Rattle.std.specs.Prelude.{Option, Some, None, IfSome, IsSome, find, is_some}
+use Rattle.std.proofs.Common.{◌≡◌, ℕ, ◌<◌, zero, suc, true, false, not, List, [], ◌∷◌, refl, sym, ap, subst, ◌∙◌, arith, length}
+use Rattle.std.specs.Prelude.{◌&&◌, Option, Some, None, IfSome, IsSome, find, is_some}
 use Rattle.std.specs.Option.{option_map}
 use Rattle.std.proofs.lemmas.Bool.{not-false}
 use Rattle.genie_base.specs.Configs.{config_of, device_config}
@@ -11,12 +11,13 @@ use Rattle.genie_base.specs.declared.config.Kind.TheVariants.{Early, Outboard, P
 use Rattle.genie_base.specs.declared.event.Event.TheVariants.{Finish, Recv}
 use Rattle.genie_base.specs.declared.refusal.Refusal.TheVariants as cause
 use Rattle.genie_base.specs.declared.semantics.Class.{Class}
+use Rattle.genie_base.specs.declared.semantics.Direction.{Direction}
 use Rattle.genie_base.specs.declared.semantics.Direction.TheVariants.{Inward}
 use Rattle.genie_device.specs.Device.{DeviceView}
 use Rattle.genie_input.specs.Pools.{PoolState}
 use Rattle.genie_model.specs.Lemmas.Causes.{first_none}
 use Rattle.genie_model.specs.Lemmas.Lists.{all_has, find_has}
-use Rattle.genie_model.specs.Pending.{is_early, is_numbered, is_outboard, pending}
+use Rattle.genie_model.specs.Pending.{is_early, is_inward, is_numbered, is_outboard, pending}
 use Rattle.genie_model.specs.Refusing.{has_input, is_finished, is_within, refuse}
 use Rattle.genie_model.specs.State as flat
 use Rattle.genie_model.specs.Tables.{entry}
@@ -34,6 +35,7 @@ use Rattle.genie_arrivals.specs.Outboard.{IsLateOutboard}
 use Rattle.genie_arrivals.specs.Pooled.{IsPooledInput, IsPooledOf}
 use Rattle.genie_arrivals.specs.Pooled as arrivals
 use Rattle.genie_pooling.specs.Pooled.{is_pooled_device, is_pooled_kind}
+use Rattle.genie_calls.specs.Serving.{is_late}
 use Rattle.genie_calls.specs.Kinds.{EndsOn, HasKind, IsInputOn, IsOfKind}
 use Rattle.genie_calls.proofs.Handles.{configured}
 
@@ -132,3 +134,18 @@ ends_pooled k n class on is = both (λ (t : Transfer) (o : IsInputOn Pooled k.de
 
 pub ends_outboard : (k : Kernel) (n : ℕ) (class : Class) → EndsOn Outboard k n → IfSome (find (has_number n) k.transfers) (λ (t : Transfer). class_of t.sem ≡ class) → IsLateOutboard class k n
 ends_outboard k n class on is = both (λ (t : Transfer) (o : IsInputOn Outboard k.devices t) e. record { inward = o.inward; class_is = e; outboard = kind_outboard (entry k.devices t.dev) o.device }) (find (has_number n) k.transfers) on is
+
+-- such an end isn't on an early device
+late_one : (kind : Kind) (k : Kernel) (t : Transfer) → is_early kind ≡ false → IsInputOn kind k.devices t → is_late k t ≡ true
+late_one kind k t other x = ap (λ (d : Direction). is_inward d && not (is_early_device (entry k.devices t.dev))) x.inward ∙ ap not (not_early kind (entry k.devices t.dev) other x.device)
+  where
+    not_early : (kind : Kind) (v : Option DeviceView) → is_early kind ≡ false → IsOfKind kind v → is_early_device v ≡ false
+    not_early kind None other h = absurd h
+    not_early kind (Some v) other h = ap is_early h ∙ other
+
+pub ends_late : (k : Kernel) (n : ℕ) (kind : Kind) → EndsOn kind k n → is_early kind ≡ false → IfSome (find (has_number n) k.transfers) (λ (t : Transfer). is_late k t ≡ false) → is_some (find (has_number n) k.transfers) ≡ true → ⊥
+ends_late k n kind on other early there = by_found (find (has_number n) k.transfers) on early there
+  where
+    by_found : (o : Option Transfer) → IfSome o (IsInputOn kind k.devices) → IfSome o (λ (t : Transfer). is_late k t ≡ false) → is_some o ≡ true → ⊥
+    by_found None on early there = let clash : false ≡ true = there in absurd (cc)
+    by_found (Some t) on early there = let clash : true ≡ false = sym (late_one kind k t other on) ∙ early in absurd (cc)

@@ -64,7 +64,7 @@ still_sized old new v g h config s = record {
 }
 
 -- an event that leaves the meters copies nothing
-pub copies_nothing : (old new : Kernel) (e : Event) (r : Reply) → new.memory.frames.meters ≡ old.memory.frames.meters → IsTabled e → KeepsToBound old e new r
+pub copies_nothing : (old new : Kernel) (e : Event) (r : Reply) → new.memory.frames.meters ≡ old.memory.frames.meters → IsTabled old e → KeepsToBound old e new r
 copies_nothing old new e r same tabled = let equal = ap work same in omega (arith, equal)
 
 -- an event that gives out no number gives out one at most
@@ -72,7 +72,7 @@ pub none_given : (old new : Kernel) → new.next ≡ old.next → new.next ≤ o
 none_given old new same = omega (arith, same)
 
 -- an event that touches nothing outside, and is told where host and store tell
-served_alone : (old new : Kernel) (e : Event) (r : Reply) (host : HostView) (v : StoreView) → IsGood old → IsGood new → Kept old new → new.config ≡ old.config → new.next ≤ old.next + 1 → MetersRise (2 ^ 36) old.memory.frames new.memory.frames → mark_of r ≡ NoFault → HasHandles old.config host → IsSized old.memory v → ((h : HostView) → StepsTold (view old h v) e (view new h v) r) → (IsTabled e → KeepsToBound old e new r) → Shares old e new r → Served old new e host host v v r
+served_alone : (old new : Kernel) (e : Event) (r : Reply) (host : HostView) (v : StoreView) → IsGood old → IsGood new → Kept old new → new.config ≡ old.config → new.next ≤ old.next + 1 → MetersRise (2 ^ 36) old.memory.frames new.memory.frames → mark_of r ≡ NoFault → HasHandles old.config host → IsSized old.memory v → ((h : HostView) → StepsTold (view old h v) e (view new h v) r) → (IsTabled old e → KeepsToBound old e new r) → Shares old e new r → Served old new e host host v v r
 served_alone old new e r host v g good kept config numbers rises unfailed handles sized told copying sharing = record {
   good = good;
   sized = still_sized old new v g good config sized;
@@ -100,7 +100,7 @@ pub paged_served : PagedIsTold → (old new : Kernel) (e : Event) (r : Reply) �
 paged_served law old new e r g h good kept config numbers meters landed unfailed steps sharing = λ host v handles sized paged. served_alone old new e r host v g good kept config (none_given old new numbers) (rises_same (2 ^ 36) old.memory.frames new.memory.frames meters landed) unfailed handles sized (λ z. law old new e r z v h config sized paged steps) (copies_nothing old new e r meters) sharing
 
 -- an event that may touch the store
-pub store_served : (old new : Kernel) (e : Event) (v w : StoreView) (r : Reply) → touched_by old.config e ≡ TheStore → IsGood new → IsSized new.memory w → Kept old new → new.config ≡ old.config → new.next ≤ old.next + 1 → MetersRise (2 ^ 36) old.memory.frames new.memory.frames → ((host : HostView) → StepsTold (view old host v) e (view new host w) r) → StoreCause (mark_of r) v.faults w.faults → (IsTabled e → KeepsToBound old e new r) → Shares old e new r → ServedByStore old e new v w r
+pub store_served : (old new : Kernel) (e : Event) (v w : StoreView) (r : Reply) → touched_by old.config e ≡ TheStore → IsGood new → IsSized new.memory w → Kept old new → new.config ≡ old.config → new.next ≤ old.next + 1 → MetersRise (2 ^ 36) old.memory.frames new.memory.frames → ((host : HostView) → StepsTold (view old host v) e (view new host w) r) → StoreCause (mark_of r) v.faults w.faults → (IsTabled old e → KeepsToBound old e new r) → Shares old e new r → ServedByStore old e new v w r
 store_served old new e v w r outside good sized kept config numbers rises told cause copying sharing = λ host handles. record {
   good = good;
   sized = sized;
@@ -178,8 +178,8 @@ module _ (old new : Kernel) (e f : Event) (r : Reply) (is : e ≡ f) where
   as_host before after v sized paged served = subst (λ x. Served old new x before after v v r) (sym is) (served v sized paged)
 
 -- the end of an input that touches nothing outside, and one that may touch the store
-pub paged_by_store : PagedIsTold → (old new : Kernel) (n : ℕ) (r : Reply) (v : StoreView) → IsGood old → refuse (outline old) (Finish n) ≡ None → IsSized old.memory v → IsPaged v → EndsPaged old n new r → ServedByStore old (Finish n) new v v r
-paged_by_store law old new n r v g h sized paged ends = λ host handles. served_alone old new (Finish n) r host v g ends.good ends.kept ends.config (none_given old new ends.numbers) (rises_most (2 ^ 35) (2 ^ 36) old.memory.frames new.memory.frames (omega arith) ends.rises) ends.unfailed handles sized (λ z. law old new (Finish n) r z v h ends.config sized paged ends.step) (λ tabled. absurd tabled) tt
+pub paged_by_store : PagedIsTold → (old new : Kernel) (n : ℕ) (r : Reply) (v : StoreView) → IsGood old → refuse (outline old) (Finish n) ≡ None → IsSized old.memory v → IsPaged v → (IsTabled old (Finish n) → KeepsToBound old (Finish n) new r) → EndsPaged old n new r → ServedByStore old (Finish n) new v v r
+paged_by_store law old new n r v g h sized paged copying ends = λ host handles. served_alone old new (Finish n) r host v g ends.good ends.kept ends.config (none_given old new ends.numbers) (rises_most (2 ^ 35) (2 ^ 36) old.memory.frames new.memory.frames (omega arith) ends.rises) ends.unfailed handles sized (λ z. law old new (Finish n) r z v h ends.config sized paged ends.step) copying tt
 
-pub ends_by_store : (old new : Kernel) (n : ℕ) (r : Reply) (v w : StoreView) → Serves old (Finish n) new v w r → ServedByStore old (Finish n) new v w r
-ends_by_store old new n r v w ends = store_served old new (Finish n) v w r refl ends.good ends.sized ends.kept ends.config (none_given old new ends.numbers) ends.rises ends.step ends.cause (λ tabled. absurd tabled) tt
+pub ends_by_store : (old new : Kernel) (n : ℕ) (r : Reply) (v w : StoreView) → (IsTabled old (Finish n) → KeepsToBound old (Finish n) new r) → Serves old (Finish n) new v w r → ServedByStore old (Finish n) new v w r
+ends_by_store old new n r v w copying ends = store_served old new (Finish n) v w r refl ends.good ends.sized ends.kept ends.config (none_given old new ends.numbers) ends.rises ends.step ends.cause copying tt

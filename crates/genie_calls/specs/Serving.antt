@@ -1,10 +1,9 @@
 -- What an event leaves of the kernel, the host and the store, and what it may answer.
-use Rattle.std.specs.Prelude.{◌≡◌, ℕ, ◌+◌, ◌^◌, ◌≤◌, Bool, true, false, IsTrue, ⊤}
+use Rattle.std.specs.Prelude.{◌≡◌, ℕ, ◌+◌, ◌^◌, ◌≤◌, Bool, true, false, not, ◌&&◌, find, IfSome, ⊤}
 use Rattle.genie_base.specs.Events.{mark_of}
-use Rattle.genie_base.specs.Transfers.{class_of, is_strong}
 use Rattle.genie_base.specs.declared.config.Config.{Config}
 use Rattle.genie_base.specs.declared.event.Event.{Event}
-use Rattle.genie_base.specs.declared.event.Event.TheVariants.{Send, Recv, Fork, Input, Finish}
+use Rattle.genie_base.specs.declared.event.Event.TheVariants.{Send, Recv, Fork, Finish}
 use Rattle.genie_base.specs.declared.reply.Mark.{Mark}
 use Rattle.genie_base.specs.declared.reply.Mark.TheVariants.{NoFault}
 use Rattle.genie_base.specs.declared.reply.Reply.{Reply}
@@ -15,6 +14,10 @@ use Rattle.genie_object.specs.Sound.{IsSized}
 use Rattle.genie_model.specs.Step.{uses_store}
 use Rattle.genie_model.specs.Tables.{entry}
 use Rattle.genie_kernel.specs.declared.kernel.Kernel.{Kernel}
+use Rattle.genie_kernel.specs.declared.transfer.Transfer.{Transfer}
+use Rattle.genie_model.specs.Pending.{is_inward}
+use Rattle.genie_kernel.specs.Calls.{has_number}
+use Rattle.genie_kernel.specs.Planned.{is_early_device}
 use Rattle.genie_kernel.specs.Good.{IsGood}
 use Rattle.genie_kernel.specs.Handles.{HasHandles, KeepsOthers}
 use Rattle.genie_kernel.specs.Kept.{Kept}
@@ -65,12 +68,15 @@ Touches Nothing mark old new v w = TouchesNothing mark old new v w
 Touches TheStore mark old new v w = TouchesStore mark old new v w
 Touches (TheHandle h) mark old new v w = TouchesHandle h mark old new v w
 
--- the table of copying bounds these events: all but a fork, a `done`, and an input by share or weak move
-abbrev pub IsTabled : Event → Type 0
-IsTabled (Fork p child) = ⊥
-IsTabled (Input p sem d port flow a n) = IsTrue (is_strong (class_of sem))
-IsTabled (Finish id) = ⊥
-IsTabled e = ⊤
+-- the end of an input on a device that isn't early
+abbrev pub is_late : Kernel → Transfer → Bool
+is_late k t = is_inward t.dir && not (is_early_device (entry k.devices t.dev))
+
+-- the table of copying bounds these events: all but a fork, and the end of an input on a device that isn't early
+abbrev pub IsTabled : Kernel → Event → Type 0
+IsTabled k (Fork p child) = ⊥
+IsTabled k (Finish id) = IfSome (find (has_number id) k.transfers) (λ (t : Transfer). is_late k t ≡ false)
+IsTabled k e = ⊤
 
 -- the kernel is good over a store of its size, and keeps what is lent and its configuration; what it stands for and the
 -- reply are those of the flat machine's step; a failure has its cause, and the handles stay open; one number at most is given
@@ -87,7 +93,7 @@ pub record Served (old new : Kernel) (e : Event) (before after : HostView) (v w 
   pub handles : HasHandles new.config after
   pub others : KeepsOthers old.config before after
   pub rises : MetersRise (2 ^ 36) old.memory.frames new.memory.frames
-  pub copying : IsTabled e → KeepsToBound old e new reply
+  pub copying : IsTabled old e → KeepsToBound old e new reply
   pub sharing : Shares old e new reply
   pub filled : StepsFilled old e new reply before after v w
 

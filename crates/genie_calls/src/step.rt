@@ -157,7 +157,7 @@ pub fn step<'a, H: Host, S: Store>(
 
     // A refusal changes nothing, and what the processor copies keeps to the table.
     ensures refused { IsSome (refuse (outline kernel.old) event.now) → kernel.new ≡ kernel.old }
-    ensures copying { IsTabled event.now → KeepsToBound kernel.old event.now kernel.new result }
+    ensures copying { IsTabled kernel.old event.now → KeepsToBound kernel.old event.now kernel.new result }
 
     // Pages are shared with a child, lent in their own frames, or used again, and not copied.
     ensures sharing { Shares kernel.old event.now kernel.new result }

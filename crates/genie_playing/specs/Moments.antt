@@ -19,6 +19,8 @@ use Rattle.genie_kernel.specs.Rising.{MetersRise}
 use Rattle.genie_kernel.specs.Steps.{StepsTold}
 use Rattle.genie_kernel.specs.View.{outline, view}
 use Rattle.genie_copying.specs.Bounds.{KeepsToBound}
+use Rattle.genie_changes.specs.Filling.{StepsFilled}
+use Rattle.genie_calls.specs.Sharing.{Shares}
 use Rattle.genie_calls.specs.Serving.{IsTabled, Touches, touched_by}
 use Rattle.genie_replay.specs.Plays.{LaterFaults, OnlyRun}
 use Rattle.genie_playing.specs.Costs.{Answer, raise}
@@ -62,7 +64,9 @@ pub record HasRoom (k : Kernel) : Type 0 where
 
 -- One event is stepped: where bytes are told, as the flat machine steps it. A failure is answered only where the count of
 -- the device's handle, or of the store, rose in this step, and no other handle changes. No frame is freed or gets another
--- owner while a device holds it. A refusal leaves the kernel as it is, and what the processor copies keeps to the table.
+-- owner while a device holds it. A refusal leaves the kernel as it is, what the processor copies keeps to the table, and
+-- pages that may be shared are. What the host tells of one file is used, whatever it tells of the others: over every bytes
+-- that these may have the event is stepped as the flat machine steps it (`StepsFilled`).
 pub record Serves (old : Moment) (e : Event) (reply : Reply) (new : Moment) : Type 0 where
   pub step : StepsTold (shown old) e (shown new) reply
   pub cause : Touches (touched_by old.kernel.config e) (mark_of reply) old.host new.host old.store new.store
@@ -72,7 +76,9 @@ pub record Serves (old : Moment) (e : Event) (reply : Reply) (new : Moment) : Ty
   pub rises : MetersRise (2 ^ 36) old.kernel.memory.frames new.kernel.memory.frames
   pub numbers : new.kernel.next ≤ old.kernel.next + 1
   pub refused : IsSome (refuse (outline old.kernel) e) → new.kernel ≡ old.kernel
-  pub copying : IsTabled e → KeepsToBound old.kernel e new.kernel reply
+  pub copying : IsTabled old.kernel e → KeepsToBound old.kernel e new.kernel reply
+  pub sharing : Shares old.kernel e new.kernel reply
+  pub filled : StepsFilled old.kernel e new.kernel reply old.host new.host old.store new.store
 
 -- and this is how far the meters rose in it
 pub record StepsTo (old : Moment) (e : Event) (a : Answer) (new : Moment) : Type 0 where

@@ -36,6 +36,8 @@ returns-in-Err-clause-answers g c = record {
       numbers = c.step-reply.ensures.numbers;
       refused = c.step-reply.ensures.refused;
       copying = c.step-reply.ensures.copying;
+      sharing = c.step-reply.ensures.sharing;
+      filled = c.step-reply.ensures.filled;
     };
     cost = rw (c.meters-before.ensures, c.meters.ensures) at c.raise-cost.ensures;
   };
