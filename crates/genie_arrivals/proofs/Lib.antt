@@ -52,3 +52,4 @@ mod EarlyCostsHeld
 mod EarlyCostsCounting
 mod EarlyCostsBound
 mod PooledMoveEnds
+mod LateCosts

@@ -10,6 +10,7 @@ ghost use Rattle.genie_kernel.specs.Calls.{has_number};
 ghost use Rattle.genie_kernel.specs.Good.{IsGood};
 ghost use Rattle.genie_kernel.specs.Regions.{owned_regions};
 ghost use Rattle.genie_kernel.specs.View.{outline};
+ghost use Rattle.genie_copying.specs.Bounds.{KeepsToBound};
 ghost use Rattle.genie_arrivals.specs.Paging.{EndsPaged};
 ghost use Rattle.genie_arrivals.specs.Pooled.{CanCopyPending, CanCopyTo, CopiesPending, GoesTo, IsBufferIn, IsOwned, IsPooledInput, frames_in, offset_of};
 ghost use Rattle.genie_arrivals.specs.Replies.{is_there};
@@ -99,7 +100,8 @@ fn share_into(kernel: &mut Kernel, id: TransferId, range: &Range) -> Reply<'stat
     requires case { IsPooledInput Share kernel.old id.0 }
     requires owner { IsOwned kernel.old id.0 }
     requires place { GoesTo kernel.old id.0 range.now }
-    ensures { EndsPaged kernel.old id.0 kernel.new result }
+    ensures ends { EndsPaged kernel.old id.0 kernel.new result }
+    ensures copying { KeepsToBound kernel.old (event.Finish id.0) kernel.new result }
 {
     end_laws();
     change_laws();
@@ -135,7 +137,10 @@ pub fn finish_share_pooled(kernel: &mut Kernel, id: TransferId) -> Reply<'static
     requires meters { AreBelow (2 ^ 63) kernel.old.memory.frames.meters }
     requires accepted { refuse (outline kernel.old) (event.Finish id.0) ≡ None }
     requires case { IsPooledInput Share kernel.old id.0 }
-    ensures { EndsPaged kernel.old id.0 kernel.new result }
+    ensures ends { EndsPaged kernel.old id.0 kernel.new result }
+
+    // What the processor copies keeps to the table.
+    ensures copying { KeepsToBound kernel.old (event.Finish id.0) kernel.new result }
 {
     if is_gone(kernel, id) {
         return finish_gone_late(kernel, id);
@@ -154,7 +159,8 @@ fn weak_move_into(kernel: &mut Kernel, id: TransferId, range: &Range) -> Reply<'
     requires case { IsPooledInput WeakMove kernel.old id.0 }
     requires owner { IsOwned kernel.old id.0 }
     requires place { GoesTo kernel.old id.0 range.now }
-    ensures { EndsPaged kernel.old id.0 kernel.new result }
+    ensures ends { EndsPaged kernel.old id.0 kernel.new result }
+    ensures copying { KeepsToBound kernel.old (event.Finish id.0) kernel.new result }
 {
     end_laws();
     change_laws();
@@ -183,7 +189,10 @@ pub fn finish_weak_move_pooled(kernel: &mut Kernel, id: TransferId) -> Reply<'st
     requires meters { AreBelow (2 ^ 63) kernel.old.memory.frames.meters }
     requires accepted { refuse (outline kernel.old) (event.Finish id.0) ≡ None }
     requires case { IsPooledInput WeakMove kernel.old id.0 }
-    ensures { EndsPaged kernel.old id.0 kernel.new result }
+    ensures ends { EndsPaged kernel.old id.0 kernel.new result }
+
+    // What the processor copies keeps to the table.
+    ensures copying { KeepsToBound kernel.old (event.Finish id.0) kernel.new result }
 {
     if is_gone(kernel, id) {
         return finish_gone_late(kernel, id);

@@ -24,6 +24,8 @@ use Rattle.genie_arrivals.proofs.PooledEnd.{mid_good}
 use Rattle.genie_arrivals.proofs.PooledLive.{live_returns}
 use Rattle.genie_arrivals.proofs.PooledShare.{can_pending, copied_by, goes, goes_there, spaces_same, waits_pending}
 use Rattle.genie_arrivals.proofs.pooled.weak_move_into.Goals as goal
+use Rattle.std.specs.Prelude.{Some}
+use Rattle.genie_arrivals.proofs.LateCosts.{weak_keeps}
 
 pub copy_pending-requires : goal.copy_pending-requires
 copy_pending-requires c = can_pending c.end_laws.ensures c.change_laws.ensures c.copy_laws.ensures.fit c.args.kernel.now c.args.id.0 c.args.range.now WeakMove refl c.requires.good c.requires.meters c.requires.accepted c.requires.case c.requires.place
@@ -72,8 +74,8 @@ overflow_mul-result c =
     let low = low_address k o.pid c.get-page.result had.regions o.region c.requires.good had.there (find_has (has_id o.region.id.0) had.regions o.region had.found).0 page in
     omega (arith, low)
 
-pub returns : goal.returns
-returns c =
+pub returns-clause-ends : goal.returns-clause-ends
+returns-clause-ends c =
     let k : Kernel = c.args.kernel.now in
     let t : Transfer = c.end_waiting-transfer.result in
     let new : Kernel = c.end_waiting-transfer.new.kernel in
@@ -85,3 +87,6 @@ returns c =
     let same : c.make_live.new.kernel ≡ lively new o.pid o.region.id.0 had.regions = c.make_live.ensures ∙ ap (lively new o.pid o.region.id.0) regions in
     let ended = live_returns c.end_laws.ensures c.change_laws.ensures c.copy_laws.ensures.fit c.buffers_show.ensures c.buffers_are_released.ensures.ends c.buffers_are_released.ensures.shows k c.copy_pending.new.kernel new c.args.id.0 t o c.args.range.now c.requires.good c.requires.accepted c.requires.case c.requires.owner c.requires.place c.copy_pending.ensures c.end_waiting-transfer.ensures had in
     subst (λ (x : Kernel). EndsPaged k c.args.id.0 x (reply.Input (Some (o.region.start * c.get-page.result)) t.stored t.note)) (sym same) (subst (λ (z : ℕ). EndsPaged k c.args.id.0 (lively new o.pid o.region.id.0 had.regions) (reply.Input (Some (o.region.start * z)) t.stored t.note)) (sym page) ended)
+
+pub returns-clause-copying : goal.returns-clause-copying
+returns-clause-copying c = weak_keeps c.args.kernel.now c.copy_pending.new.kernel c.end_waiting-transfer.new.kernel c.make_live.new.kernel c.args.id.0 c.end_waiting-transfer.result c.args.range.now WeakMove (Some (c.in-Some.owned.region.start * c.get-page.result)) c.end_waiting-transfer.result.stored c.end_waiting-transfer.result.note refl c.requires.good c.requires.case c.requires.owner c.requires.place c.copy_pending.ensures c.end_waiting-transfer.ensures (ap (λ (z : Kernel). z.memory.frames.meters) c.make_live.ensures)
