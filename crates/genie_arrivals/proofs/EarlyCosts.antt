@@ -125,7 +125,7 @@ input_bound k n p t at s note found inward owner = ap (finish_bound k) found ∙
 pub fault_bound : (k : Kernel) (n p : ℕ) (t : Transfer) → find (has_number n) k.transfers ≡ Some t → t.dir ≡ Inward → t.owner ≡ Some p → bound k (event.Finish n) reply.StoreFault ≡ stored_bound k p t t.sem
 fault_bound k n p t found inward owner = ap (finish_bound k) found ∙ (λ i. end_bound k t (inward i) (owner i))
 
-move_row : (k : Kernel) (p : ℕ) (t : Transfer) (sem : Semantics) → class_of sem ≡ class.Move → is_aligned k.config t.dev 0 ≡ true → stored_bound k p t sem ≡ k.config.page
+pub move_row : (k : Kernel) (p : ℕ) (t : Transfer) (sem : Semantics) → class_of sem ≡ class.Move → is_aligned k.config t.dev 0 ≡ true → stored_bound k p t sem ≡ k.config.page
 move_row k p t Copy c a = cc
 move_row k p t EmulatedCopy c a = cc
 move_row k p t Share c a = cc

@@ -53,3 +53,4 @@ mod EarlyCostsCounting
 mod EarlyCostsBound
 mod PooledMoveEnds
 mod LateCosts
+mod OutboardCosts

@@ -21,6 +21,9 @@ use Rattle.genie_object.specs.Lemmas.Naming.{named_once}
 use Rattle.genie_object.specs.Lemmas.Works.{one_get, page_most, write_most}
 use Rattle.genie_kernel.specs.Lemmas.Rising.{rises_most, rises_none, rises_on, rises_spent}
 use Rattle.genie_arrivals.specs.PooledRoom.{ArePrivate, MakesOwn}
+use Rattle.std.proofs.Common.{zero, suc, ◌-◌, ◌≤◌, ap, sym, subst, Bool, true, false}
+use Rattle.std.specs.Prelude.{if◌then◌else◌}
+use Rattle.genie_object.specs.Costs.{must_copy, write_work, writes_work}
 
 -- the page that an entry names
 names_is : (p : ℕ) (e : Entry) → names p e ≡ true → (q : PageId) × (e.page ≡ Some q) × (q.0 ≡ p)
@@ -69,13 +72,27 @@ pub record OwnSoFar (old now : Memory) (before mid : StoreView) (o i k : ℕ) : 
 
 pub own_none : (m : Memory) (v : StoreView) (o i : ℕ) → IsSound m → IsSized m v → OwnSoFar m m v v o i 0
 own_none m v o i s z = record {
-  owns = record { moves = moves_none (is_in_range o i 0) m v s z; takes = record { free = omega arith; added = omega arith }; rises = rises_none (8192 * 0) m.frames m.frames refl };
+  owns = record { moves = moves_none (is_in_range o i 0) m v s z; takes = record { free = omega arith; added = omega arith }; rises = rises_none (8192 * 0) m.frames m.frames refl; copies = omega arith };
   own = λ j l. absurd (omega (arith, l));
   faults = refl;
 }
 
 pub own_private : (m : Memory) (o i : ℕ) (f : FrameId) → IsReady m o i f → IsPrivate m.frames.counts m.pages.pages (entry_at m.objects o i).page
 own_private m o i f r = record { number = r.number; frame = f; is_page = r.is_page; is_place = r.is_place; alone = r.alone; unlent = r.unlent }
+
+-- a page that is no dearer costs no more to write
+write_fewer : (a b : Memory) (o i : ℕ) → b.frames.page ≡ a.frames.page → (must_copy a o i ≡ false → must_copy b o i ≡ false) → write_work b o i ≤ write_work a o i
+write_fewer a b o i page c = subst (λ (z : ℕ). (if must_copy b o i then z else 0) ≤ write_work a o i) (sym page) (chosen (must_copy b o i) (must_copy a o i) a.frames.page c)
+  where
+    chosen : (x y : Bool) (n : ℕ) → (y ≡ false → x ≡ false) → (if x then n else 0) ≤ (if y then n else 0)
+    chosen true true n c = omega arith
+    chosen true false n c = let clash : true ≡ false = c refl in absurd (cc)
+    chosen false true n c = omega arith
+    chosen false false n c = omega arith
+
+writes_grow : (m : Memory) (o i k n : ℕ) → writes_work m o i k ≤ writes_work m o i (k + n)
+writes_grow m o i k zero = let same : k + 0 ≡ k = omega arith in let all = ap (writes_work m o i) same in omega (arith, all)
+writes_grow m o i k (suc n) = let next : k + suc n ≡ suc (k + n) = omega arith in let all = ap (writes_work m o i) next in let before = writes_grow m o i k n in omega (arith, all, before)
 
 -- one more, or the store failed there
 pub own_next : (a b c : Memory) (u v w : StoreView) (o i k : ℕ) → MakesOwn a b u v o i k → OnlyMoves (is_entry o (i + k)) b c v w → TakesAtMost 1 1 b c → Spends (write_work b o (i + k)) (gets_for b o (i + k)) 0 1 b.frames.meters c.frames.meters → MakesOwn a c u w o i (k + 1)
@@ -89,6 +106,12 @@ own_next a b c u v w o i k x y takes spends =
       moves = moves_on (is_in_range o i (k + 1)) a b c u v w (moves_more (is_in_range o i k) (is_in_range o i (k + 1)) a b u v (λ d e h. wider o i k (k + 1) d e (omega arith) h) x.moves) (moves_more (is_entry o (i + k)) (is_in_range o i (k + 1)) b c v w (λ d e h. last_entry o i k (k + 1) d e (omega arith) h) y);
       takes = record { free = omega (arith, x.takes.free, takes.free); added = omega (arith, x.takes.added, takes.added) };
       rises = rises_most (8192 * k + 8192) (8192 * (k + 1)) a.frames c.frames (omega arith) (rises_on (8192 * k) 8192 a.frames b.frames c.frames x.rises one);
+      copies =
+          let less = write_fewer a b o (i + k) x.moves.keeps.page (x.moves.costs.write o (i + k)) in
+          let next : writes_work a o i (k + 1) ≡ writes_work a o i k + write_work a o (i + k) = (let d : k + 1 ≡ suc k = omega arith in ap (writes_work a o i) d) in
+          let spent = spends.work in
+          let before = x.copies in
+          omega (arith, less, next, spent, before);
     }
 
 pub own_more : (a b c : Memory) (u v w : StoreView) (o i k : ℕ) (f : FrameId) → OwnSoFar a b u v o i k → OnlyMoves (is_entry o (i + k)) b c v w → TakesAtMost 1 1 b c → Spends (write_work b o (i + k)) (gets_for b o (i + k)) 0 1 b.frames.meters c.frames.meters → IsReady c o (i + k) f → w.faults ≡ v.faults → OwnSoFar a c u w o i (k + 1)
@@ -107,4 +130,5 @@ own_wider a b u v o i k n l x = record {
   moves = moves_more (is_in_range o i k) (is_in_range o i n) a b u v (λ d e h. wider o i k n d e l h) x.moves;
   takes = record { free = omega (arith, x.takes.free, l); added = omega (arith, x.takes.added, l) };
   rises = rises_most (8192 * k) (8192 * n) a.frames b.frames (omega (arith, l)) x.rises;
+  copies = (let grown = writes_grow a o i k (n - k) in let all : k + (n - k) ≡ n = omega (arith, l) in let same = ap (writes_work a o i) all in let before = x.copies in omega (arith, grown, same, before));
 }

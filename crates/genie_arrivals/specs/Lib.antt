@@ -20,3 +20,4 @@ pub mod Outboard
 pub mod OutboardMove
 pub mod FreshStored
 pub mod EarlyCosts
+pub mod LateCosts

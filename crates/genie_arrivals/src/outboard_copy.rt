@@ -11,6 +11,9 @@ ghost use Rattle.genie_kernel.specs.Rising.{MetersRise};
 ghost use Rattle.genie_kernel.specs.View.{outline};
 ghost use Rattle.genie_changes.specs.Making.{IsMoved};
 ghost use Rattle.genie_kernel.specs.Calls.{has_number};
+ghost use Rattle.genie_copying.specs.Bounds.{KeepsToBound};
+ghost use Rattle.genie_copying.specs.Spending.{CopiesAtMost};
+ghost use Rattle.genie_arrivals.specs.EarlyCosts.{HoldsNoMore, few_of, ready_work, store_work};
 ghost use Rattle.genie_arrivals.specs.Ends.{EndsAlone};
 ghost use Rattle.genie_arrivals.specs.Failing.{Serves};
 ghost use Rattle.genie_model.specs.Tables.{entry};
@@ -29,6 +32,7 @@ use genie_base::{Reply, TransferId};
 use genie_changes::released::{buffers_are_released, buffers_show};
 use genie_changes::settled::paged_events_are_told;
 use genie_device::Device;
+use genie_finish::laws::whole_pages_cost_nothing;
 use genie_finish::ready_range;
 use genie_input::aligned_buffer;
 use genie_kernel::laws::accepted_events_step;
@@ -51,7 +55,8 @@ pub(crate) fn store_bytes(
     requires can { CanStoreBytes memory.old range.now.object.0 range.now.off range.now.len few }
     requires size { range.now.len ≡ length bytes.now }
     requires landed { memory.old.frames.landed < 2 ^ 63 }
-    ensures { StoresBytes memory.old memory.new range.now.object.0 range.now.off bytes.now }
+    ensures stores { StoresBytes memory.old memory.new range.now.object.0 range.now.off bytes.now }
+    ensures copies { CopiesAtMost (store_work memory.old range.now.object.0 range.now.off range.now.len few) memory.old memory.new }
 {
     landings_show_nowhere_else();
     let plan = aligned_buffer(memory, id, range.off, range.len);
@@ -76,6 +81,8 @@ fn make_ready<S: Store>(
     ensures can { OnOk result ((few : ℕ) → CanStoreBytes kernel.new.memory range.now.object.0 range.now.off range.now.len few) }
     ensures rises { MetersRise (2 ^ 22) kernel.old.memory.frames kernel.new.memory.frames }
     ensures landed { kernel.new.memory.frames.landed ≡ kernel.old.memory.frames.landed }
+    ensures copies { CopiesAtMost (ready_work kernel.old.memory range.now.object.0 range.now.off range.now.len) kernel.old.memory kernel.new.memory }
+    ensures held { HoldsNoMore kernel.old.memory kernel.new.memory }
     ensures cause { HasCause (S.view store.old).faults (S.view store.new).faults result }
 {
     copy_laws();
@@ -95,6 +102,7 @@ fn make_ready<S: Store>(
 // How many bytes of a page are copied out for a pending input at most.
 fn few_for(kernel: &Kernel, id: TransferId) -> u32
     requires pending { IsPending kernel.now id.0 }
+    ensures { IfSome (find (has_number id.0) kernel.now.transfers) (λ t. result ≡ few_of kernel.now.config t.sem) }
 {
     match kernel.transfers.find(Search::Number(id.0)) {
         Some(transfer) => few_bytes(kernel, transfer.sem),
@@ -115,7 +123,8 @@ fn store_waiting(
     requires can { CanStoreBytes memory.old range.now.object.0 range.now.off range.now.len few }
     requires size { range.now.len ≡ length (waiting_bytes devices.now transfer.now) }
     requires landed { memory.old.frames.landed < 2 ^ 63 }
-    ensures { StoresBytes memory.old memory.new range.now.object.0 range.now.off (waiting_bytes devices.now transfer.now) }
+    ensures stores { StoresBytes memory.old memory.new range.now.object.0 range.now.off (waiting_bytes devices.now transfer.now) }
+    ensures copies { CopiesAtMost (store_work memory.old range.now.object.0 range.now.off range.now.len few) memory.old memory.new }
 {
     let bytes = waiting_bytes(devices, transfer);
     store_bytes(memory, transfer.id, bytes, range, few);
@@ -129,7 +138,8 @@ fn store_pending(kernel: &mut Kernel, id: TransferId, range: &Range)
     requires target { IsTargetOf kernel.old id.0 range.now }
     requires can { (few : ℕ) → CanStoreBytes kernel.old.memory range.now.object.0 range.now.off range.now.len few }
     requires landed { kernel.old.memory.frames.landed < 2 ^ 63 }
-    ensures { StoresPending id.0 range.now kernel.old kernel.new }
+    ensures stores { StoresPending id.0 range.now kernel.old kernel.new }
+    ensures copies { IfSome (find (has_number id.0) kernel.old.transfers) (λ t. CopiesAtMost (store_work kernel.old.memory range.now.object.0 range.now.off range.now.len (few_of kernel.old.config t.sem)) kernel.old.memory kernel.new.memory) }
 {
     let few = few_for(kernel, id);
     match kernel.transfers.find(Search::Number(id.0)) {
@@ -156,7 +166,8 @@ fn finish_copy_landed<S: Store>(
     requires accepted { refuse (outline kernel.old) (event.Finish id.0) ≡ None }
     requires case { IsLateOutboard Copy kernel.old id.0 }
     requires target { IsTargetOf kernel.old id.0 range.now }
-    ensures { Serves kernel.old (event.Finish id.0) kernel.new (S.view store.old) (S.view store.new) result }
+    ensures serves { Serves kernel.old (event.Finish id.0) kernel.new (S.view store.old) (S.view store.new) result }
+    ensures copying { KeepsToBound kernel.old (event.Finish id.0) kernel.new result }
 {
     end_laws();
     copy_laws();
@@ -164,6 +175,7 @@ fn finish_copy_landed<S: Store>(
     buffers_show();
     buffers_are_released();
     paged_events_are_told();
+    whole_pages_cost_nothing();
     match make_ready(kernel, store, id, range) {
         Ok(()) => {}
         Err(_) => return Reply::StoreFault,
@@ -217,7 +229,10 @@ pub fn finish_copy_outboard<S: Store>(
     requires landed { kernel.old.memory.frames.landed < 2 ^ 63 }
     requires accepted { refuse (outline kernel.old) (event.Finish id.0) ≡ None }
     requires case { IsLateOutboard Copy kernel.old id.0 }
-    ensures { Serves kernel.old (event.Finish id.0) kernel.new (S.view store.old) (S.view store.new) result }
+    ensures serves { Serves kernel.old (event.Finish id.0) kernel.new (S.view store.old) (S.view store.new) result }
+
+    // What the processor copies keeps to the table.
+    ensures copying { KeepsToBound kernel.old (event.Finish id.0) kernel.new result }
 {
     accepted_events_step();
     match find_target(kernel, id) {

@@ -10,6 +10,8 @@ ghost use Rattle.genie_model.specs.Refusing.{refuse};
 ghost use Rattle.genie_model.specs.Tables.{entry};
 ghost use Rattle.genie_kernel.specs.Good.{IsGood};
 ghost use Rattle.genie_kernel.specs.View.{outline};
+ghost use Rattle.genie_copying.specs.Bounds.{KeepsToBound};
+ghost use Rattle.genie_copying.specs.Spending.{CopiesAtMost};
 ghost use Rattle.genie_arrivals.specs.Failing.{Serves};
 ghost use Rattle.genie_arrivals.specs.Outboard.{CanFetch, IsLateOutboard, waiting_bytes};
 ghost use Rattle.genie_arrivals.specs.OutboardMove.{CanFill, FillsBytes, FillsPending};
@@ -45,7 +47,8 @@ fn fill_bytes(memory: &mut Memory, id: TransferId, bytes: &[u8], range: &Range)
     requires can { CanFill memory.old range.now }
     requires size { range.now.len ≡ length bytes.now }
     requires landed { memory.old.frames.landed < 2 ^ 63 }
-    ensures { FillsBytes memory.old memory.new range.now.object.0 range.now.off bytes.now }
+    ensures fills { FillsBytes memory.old memory.new range.now.object.0 range.now.off bytes.now }
+    ensures copies { range.now.off ≡ 0 → CopiesAtMost memory.old.frames.page memory.old memory.new }
 {
     clear_object(memory, range.object);
     store_bytes(memory, id, bytes, range, 0);
@@ -67,7 +70,8 @@ fn fill_waiting(
     requires can { CanFill memory.old range.now }
     requires size { range.now.len ≡ length (waiting_bytes devices.now transfer.now) }
     requires landed { memory.old.frames.landed < 2 ^ 63 }
-    ensures { FillsBytes memory.old memory.new range.now.object.0 range.now.off (waiting_bytes devices.now transfer.now) }
+    ensures fills { FillsBytes memory.old memory.new range.now.object.0 range.now.off (waiting_bytes devices.now transfer.now) }
+    ensures copies { range.now.off ≡ 0 → CopiesAtMost memory.old.frames.page memory.old memory.new }
 {
     let bytes = waiting_bytes(devices, transfer);
     fill_bytes(memory, transfer.id, bytes, range);
@@ -81,7 +85,8 @@ fn fill_pending(kernel: &mut Kernel, id: TransferId, range: &Range)
     requires place { GoesTo kernel.old id.0 range.now }
     requires can { CanFill kernel.old.memory range.now }
     requires landed { kernel.old.memory.frames.landed < 2 ^ 63 }
-    ensures { FillsPending id.0 range.now kernel.old kernel.new }
+    ensures fills { FillsPending id.0 range.now kernel.old kernel.new }
+    ensures copies { range.now.off ≡ 0 → CopiesAtMost kernel.old.memory.frames.page kernel.old.memory kernel.new.memory }
 {
     match kernel.transfers.find(Search::Number(id.0)) {
         Some(transfer) => fill_waiting(&kernel.devices, &mut kernel.memory, transfer, range),
@@ -104,7 +109,8 @@ fn finish_move_landed<S: Store>(
     requires case { IsLateOutboard Move kernel.old id.0 }
     requires owner { IsOwned kernel.old id.0 }
     requires place { GoesTo kernel.old id.0 range.now }
-    ensures { Serves kernel.old (event.Finish id.0) kernel.new (S.view store.old) (S.view store.new) result }
+    ensures serves { Serves kernel.old (event.Finish id.0) kernel.new (S.view store.old) (S.view store.new) result }
+    ensures copying { KeepsToBound kernel.old (event.Finish id.0) kernel.new result }
 {
     end_laws();
     change_laws();
@@ -149,7 +155,10 @@ pub fn finish_move_outboard<S: Store>(
     requires landed { kernel.old.memory.frames.landed < 2 ^ 63 }
     requires accepted { refuse (outline kernel.old) (event.Finish id.0) ≡ None }
     requires case { IsLateOutboard Move kernel.old id.0 }
-    ensures { Serves kernel.old (event.Finish id.0) kernel.new (S.view store.old) (S.view store.new) result }
+    ensures serves { Serves kernel.old (event.Finish id.0) kernel.new (S.view store.old) (S.view store.new) result }
+
+    // What the processor copies keeps to the table.
+    ensures copying { KeepsToBound kernel.old (event.Finish id.0) kernel.new result }
 {
     accepted_events_step();
     if is_gone(kernel, id) {

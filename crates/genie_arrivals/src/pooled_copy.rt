@@ -1,5 +1,5 @@
 //! The end of copy inputs on pooled devices.
-ghost use Rattle.std.specs.Prelude.{◌≡◌, ◌^◌, ◌+◌, None, OnOk};
+ghost use Rattle.std.specs.Prelude.{◌≡◌, ◌^◌, ◌+◌, None, Some, OnOk, IfSome, find, false};
 ghost use Rattle.genie_base.specs.Causes.{HasCause};
 ghost use Rattle.genie_base.specs.declared.event.Event.TheVariants as event;
 ghost use Rattle.genie_base.specs.declared.semantics.Class.TheVariants.{Copy};
@@ -11,6 +11,11 @@ ghost use Rattle.genie_kernel.specs.Good.{IsGood};
 ghost use Rattle.genie_kernel.specs.Rising.{MetersRise};
 ghost use Rattle.genie_kernel.specs.View.{outline};
 ghost use Rattle.genie_changes.specs.Making.{IsMoved};
+ghost use Rattle.genie_kernel.specs.Calls.{has_number};
+ghost use Rattle.genie_copying.specs.Bounds.{KeepsToBound, fixed_bytes};
+ghost use Rattle.genie_copying.specs.Ranges.{pages_at};
+ghost use Rattle.genie_copying.specs.Spending.{CopiesAtMost};
+ghost use Rattle.genie_arrivals.specs.LateCosts.{is_exchanged};
 ghost use Rattle.genie_arrivals.specs.Failing.{Serves};
 ghost use Rattle.genie_arrivals.specs.Pooled.{IsPooledInput};
 ghost use Rattle.genie_arrivals.specs.Targets.{IsPending, IsTargetOf};
@@ -47,6 +52,7 @@ fn make_own<S: Store>(
     ensures own { OnOk result (AreOwn kernel.new.memory range.now.object.0 range.now.off range.now.len) }
     ensures meters { AreBelow (2 ^ 63 + 2 ^ 22) kernel.new.memory.frames.meters }
     ensures rises { MetersRise (2 ^ 22) kernel.old.memory.frames kernel.new.memory.frames }
+    ensures copies { CopiesAtMost (fixed_bytes kernel.old (Some (pages_at kernel.old.config.page range.now.object.0 range.now.off range.now.len))) kernel.old.memory kernel.new.memory }
     ensures cause { HasCause (S.view store.old).faults (S.view store.new).faults result }
 {
     copy_laws();
@@ -81,7 +87,8 @@ fn copy_into<S: Store>(
     requires accepted { refuse (outline kernel.old) (event.Finish id.0) ≡ None }
     requires case { IsPooledInput Copy kernel.old id.0 }
     requires target { IsTargetOf kernel.old id.0 range.now }
-    ensures { Serves kernel.old (event.Finish id.0) kernel.new (S.view store.old) (S.view store.new) result }
+    ensures serves { Serves kernel.old (event.Finish id.0) kernel.new (S.view store.old) (S.view store.new) result }
+    ensures copying { IfSome (find (has_number id.0) kernel.old.transfers) (λ t. is_exchanged kernel.old.config t ≡ false → KeepsToBound kernel.old (event.Finish id.0) kernel.new result) }
 {
     end_laws();
     copy_laws();
@@ -115,7 +122,10 @@ pub fn finish_copy_pooled<S: Store>(
     requires meters { AreBelow (2 ^ 63) kernel.old.memory.frames.meters }
     requires accepted { refuse (outline kernel.old) (event.Finish id.0) ≡ None }
     requires case { IsPooledInput Copy kernel.old id.0 }
-    ensures { Serves kernel.old (event.Finish id.0) kernel.new (S.view store.old) (S.view store.new) result }
+    ensures serves { Serves kernel.old (event.Finish id.0) kernel.new (S.view store.old) (S.view store.new) result }
+
+    // What the processor copies keeps to the table, unless the table has pages exchanged.
+    ensures copying { IfSome (find (has_number id.0) kernel.old.transfers) (λ t. is_exchanged kernel.old.config t ≡ false → KeepsToBound kernel.old (event.Finish id.0) kernel.new result) }
 {
     accepted_events_step();
     if is_gone(kernel, id) {

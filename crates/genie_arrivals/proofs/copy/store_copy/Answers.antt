@@ -19,6 +19,8 @@ use Rattle.genie_arrivals.specs.EarlyCosts.{few_of}
 use Rattle.genie_kernel.specs.Calls.{has_number}
 use Rattle.genie_base.specs.declared.config.Config.{Config}
 use Rattle.genie_arrivals.proofs.copy.store_copy.Goals as goal
+use Rattle.std.specs.Prelude.{◌%◌}
+use Rattle.genie_arrivals.proofs.EarlyCosts.{early_aligned}
 
 pub make_ready-requires-clause-pending : goal.make_ready-requires-clause-pending
 make_ready-requires-clause-pending g c = found_some c.args.kernel.now c.args.id.0 c.requires.accepted
@@ -88,7 +90,7 @@ pub returns-in-Err-clause-copying : goal.returns-in-Err-clause-copying
 returns-in-Err-clause-copying g c =
     let k : Kernel = c.args.kernel.now in
     let a = aim k c.args.id.0 c.args.range.now (found_some k c.args.id.0 c.requires.accepted) c.requires.case c.requires.target in
-    fault_keeps c.whole_pages_cost_nothing.ensures k c.args.id.0 a.t c.args.range.now c.requires.good a.found (record { is = a.is; target = a.target }) c.make_ready.new.kernel c.make_ready.ensures.copies
+    fault_keeps c.whole_pages_cost_nothing.ensures k c.args.id.0 a.t c.args.range.now c.requires.good a.found a.target a.is.inward a.is.class_is (early_aligned k a.t.dev (a.t.addr % k.config.page) c.requires.good a.is.early) c.make_ready.new.kernel c.make_ready.ensures.copies
 
 pub returns-clause-copying : goal.returns-clause-copying
 returns-clause-copying g c =
@@ -102,4 +104,4 @@ returns-clause-copying g c =
     let page : mid.memory.frames.page ≡ k.memory.frames.page = moved.good.sized.page ∙ ap (λ (z : Config). z.page) config ∙ sym c.requires.good.sized.page in
     let few : c.few_bytes-few.result ≡ few_of k.config t.sem = c.few_bytes-few.ensures ∙ ap (λ (z : Config). few_of z t.sem) config in
     let new : Kernel = record mid { memory = c.store_buffer.new.memory; transfers = c.remove-transfer.new.self } in
-    stored_keeps c.whole_pages_cost_nothing.ensures k c.args.id.0 t c.args.range.now c.requires.good found taken mid.memory page c.make_ready.ensures.held new c.few_bytes-few.result None t.stored t.note few c.make_ready.ensures.copies c.store_buffer.ensures.copies
+    stored_keeps c.whole_pages_cost_nothing.ensures k c.args.id.0 t c.args.range.now c.requires.good found taken.target taken.is.inward taken.is.class_is (early_aligned k t.dev (t.addr % k.config.page) c.requires.good taken.is.early) mid.memory page c.make_ready.ensures.held new c.few_bytes-few.result None t.stored t.note few c.make_ready.ensures.copies c.store_buffer.ensures.copies

@@ -7,6 +7,10 @@ use Rattle.genie_arrivals.proofs.LateAim.{late_aim, late_can, late_frames, late_
 use Rattle.genie_arrivals.proofs.Readying.{ready_meters}
 use Rattle.genie_arrivals.proofs.Rising.{rises_ready}
 use Rattle.genie_arrivals.proofs.outboard_copy.make_ready.Goals as goal
+use Rattle.genie_arrivals.proofs.Readying.{range_unhidden, ready_meters}
+use Rattle.genie_arrivals.proofs.EarlyCostsHeld.{holds_no_more, holds_none_more_on}
+use Rattle.genie_arrivals.proofs.EarlyCostsBound.{copies_more, ready_copies}
+use Rattle.genie_hiding.specs.Hidden.{objects_of}
 
 pub page_count-count-requires-clause-fits : goal.page_count-count-requires-clause-fits
 page_count-count-requires-clause-fits g c =
@@ -84,3 +88,32 @@ returns-in-Err-ready_range-clause-rises g c =
 
 pub returns-in-Err-clause-rises : goal.returns-in-Err-clause-rises
 returns-in-Err-clause-rises g c = rises_most (2 ^ 20) (2 ^ 22) c.args.kernel.now.memory.frames c.make_frames.new.kernel.memory.frames (omega arith) c.make_frames.ensures.rises
+
+pub returns-in-Ok-ready_range-clause-copies : goal.returns-in-Ok-ready_range-clause-copies
+returns-in-Ok-ready_range-clause-copies g c =
+    let k = c.args.kernel.now in
+    let a = late_aim k c.args.id.0 c.args.range.now c.requires.pending c.requires.case c.requires.target in
+    let out = range_unhidden c.copy_laws.ensures k c.args.id.0 a.t c.args.range.now c.requires.good a.found a.is.class_is a.is.inward a.target in
+    ready_copies (objects_of k.hidden) k.memory c.make_frames.new.kernel.memory c.ready_range.new.memory c.args.range.now.object.0 c.args.range.now.off c.args.range.now.len _ _ _ out c.make_frames.ensures.costs c.make_frames.ensures.copies c.ready_range.ensures.ready.spends
+
+pub returns-in-Ok-ready_range-clause-held : goal.returns-in-Ok-ready_range-clause-held
+returns-in-Ok-ready_range-clause-held g c =
+    let mid = c.make_frames.new.kernel.memory in
+    let moves = c.ready_range.ensures.ready.moves in
+    holds_none_more_on c.args.kernel.now.memory mid c.ready_range.new.memory c.make_frames.ensures.held (holds_no_more mid c.ready_range.new.memory c.make_frames.ensures.moved.good.sound moves.sound moves.keeps moves.counts)
+
+pub returns-in-Err-ready_range-clause-copies : goal.returns-in-Err-ready_range-clause-copies
+returns-in-Err-ready_range-clause-copies g c =
+    let k = c.args.kernel.now in
+    let a = late_aim k c.args.id.0 c.args.range.now c.requires.pending c.requires.case c.requires.target in
+    let out = range_unhidden c.copy_laws.ensures k c.args.id.0 a.t c.args.range.now c.requires.good a.found a.is.class_is a.is.inward a.target in
+    ready_copies (objects_of k.hidden) k.memory c.make_frames.new.kernel.memory c.ready_range.new.memory c.args.range.now.object.0 c.args.range.now.off c.args.range.now.len _ _ _ out c.make_frames.ensures.costs c.make_frames.ensures.copies c.ready_range.ensures.ready.spends
+
+pub returns-in-Err-ready_range-clause-held : goal.returns-in-Err-ready_range-clause-held
+returns-in-Err-ready_range-clause-held g c =
+    let mid = c.make_frames.new.kernel.memory in
+    let moves = c.ready_range.ensures.ready.moves in
+    holds_none_more_on c.args.kernel.now.memory mid c.ready_range.new.memory c.make_frames.ensures.held (holds_no_more mid c.ready_range.new.memory c.make_frames.ensures.moved.good.sound moves.sound moves.keeps moves.counts)
+
+pub returns-in-Err-clause-copies : goal.returns-in-Err-clause-copies
+returns-in-Err-clause-copies g c = copies_more 0 _ c.args.kernel.now.memory c.make_frames.new.kernel.memory (omega arith) c.make_frames.ensures.copies

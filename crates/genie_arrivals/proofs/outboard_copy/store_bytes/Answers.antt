@@ -11,6 +11,10 @@ use Rattle.genie_arrivals.specs.Stored.{CanStoreBuffer, StoresBuffer}
 use Rattle.genie_arrivals.proofs.FreshStored.{bytes_stored, can_store_full}
 use Rattle.genie_arrivals.proofs.Rising.{rises_landed}
 use Rattle.genie_arrivals.proofs.outboard_copy.store_bytes.Goals as goal
+use Rattle.genie_arrivals.proofs.OutboardCosts.{bytes_copies}
+use Rattle.genie_frame.specs.declared.frame.Owner.TheVariants.{System}
+use Rattle.genie_copying.specs.Spending.{CopiesAtMost}
+use Rattle.genie_arrivals.specs.EarlyCosts.{store_work}
 
 pub store_buffer-requires : goal.store_buffer-requires
 store_buffer-requires c =
@@ -29,8 +33,8 @@ store_buffer-requires c =
     let three = subst (λ (z : Memory). CanStoreBuffer z o off c.args.range.now.len c.args.few fs) (sym (with_frames u)) two in
     subst (λ (l : List InLoan). CanStoreBuffer (record a { frames = u }) o off c.args.range.now.len c.args.few (input_frames l)) (sym c.as_slice.ensures.value) three
 
-pub returns : goal.returns
-returns c =
+pub returns-clause-stores : goal.returns-clause-stores
+returns-clause-stores c =
     let m : Memory = c.args.memory.now in
     let a : Memory = c.aligned_buffer-plan.new.memory in
     let p = c.aligned_buffer-plan.result in
@@ -48,3 +52,16 @@ returns c =
     let short : length c.args.bytes.now ≤ 2 ^ 33 = omega (arith, c.requires.size, c.requires.can.fits) in
     let rises = rises_landed _ fs p.first p.len (length c.args.bytes.now) (2 ^ 33) m.frames a.frames u few short e.fresh c.land_bytes.ensures.only c.land_bytes.ensures.most in
     bytes_stored m a.frames u c.args.id.0 fs p.first p.len c.args.bytes.now c.requires.can.sound e.fresh (subst IsSound (with_frames a.frames) e.sound) (subst (ShowsBesides fs m) (with_frames a.frames) e.seen) e.buffers e.ready (e.len ∙ c.requires.size) c.land_bytes.ensures.only c.land_bytes.ensures.content c.landings_show_nowhere_else.ensures new o off e.first three rises
+
+pub returns-clause-copies : goal.returns-clause-copies
+returns-clause-copies c =
+    let m : Memory = c.args.memory.now in
+    let a : Memory = c.aligned_buffer-plan.new.memory in
+    let e = c.aligned_buffer-plan.ensures in
+    let o = c.args.range.now.object.0 in
+    let off = c.args.range.now.off in
+    let len = c.args.range.now.len in
+    let with_frames : (f : FrameTable) → record a { frames = f } ≡ record m { frames = f } = λ f k. record { frames = f; pages = e.pages k; objects = e.objects k; slots = e.slots k } in
+    let u : FrameTable = c.land_bytes.new.frames in
+    let stored : CopiesAtMost (store_work (record m { frames = u }) o off len c.args.few) (record m { frames = u }) c.store_buffer.new.memory = subst (λ (z : Memory). CopiesAtMost (store_work z o off len c.args.few) z c.store_buffer.new.memory) (with_frames u) c.store_buffer.ensures.copies in
+    bytes_copies m a.frames u (System c.args.id.0) (input_frames c.aligned_buffer-plan.result.loans.items) c.requires.can.sound e.fresh c.land_bytes.ensures.only.counts c.land_bytes.ensures.only.page c.land_bytes.ensures.only.meters c.store_buffer.new.memory o off len c.args.few stored

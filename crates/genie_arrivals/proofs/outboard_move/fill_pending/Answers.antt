@@ -47,11 +47,11 @@ unreachable-requires c =
     let some = sym (found_some c.args.kernel.now c.args.id.0 c.requires.accepted) ∙ ap is_some none in
     absurd (cc)
 
-pub returns : goal.returns
-returns c =
+pub returns-clause-fills : goal.returns-clause-fills
+returns-clause-fills c =
     let k = c.args.kernel.now in
     let t : Transfer = c.in-Some.transfer.now in
     let found : find (has_number c.args.id.0) k.transfers ≡ Some t = sym c.find.ensures ∙ ap option_copied c.in-Some.is in
     let to : GoesToRegion k t c.args.range.now = found_case (λ u. GoesToRegion k u c.args.range.now) k c.args.id.0 t c.requires.place found in
     let size : c.args.range.now.len ≡ length (waiting_bytes k.devices t) = to.size ∙ fetched_all t.stored (entry k.devices t.dev) t.buffer (late_fetch k c.args.id.0 t c.requires.good found (found_case (IsOutboardInput Move k.devices) k c.args.id.0 t c.requires.case found) (found_over k c.args.id.0 t c.requires.accepted found)) in
-    record { transfer = t; found = found; size = size; fills = c.fill_waiting.ensures; only = refl }
+    record { transfer = t; found = found; size = size; fills = c.fill_waiting.ensures.fills; only = refl }

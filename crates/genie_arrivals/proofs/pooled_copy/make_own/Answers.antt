@@ -7,6 +7,9 @@ use Rattle.genie_kernel.specs.declared.kernel.Kernel.{Kernel}
 use Rattle.genie_kernel.specs.Lemmas.Rising.{rises_most, rises_on}
 use Rattle.genie_arrivals.proofs.PooledAim.{few_pages, own_range, own_shows, pooled_aim, pooled_moved, pooled_roomy}
 use Rattle.genie_arrivals.proofs.pooled_copy.make_own.Goals as goal
+use Rattle.genie_arrivals.proofs.LateCosts.{own_copies}
+use Rattle.genie_arrivals.proofs.EarlyCostsBound.{copies_more}
+use Rattle.genie_arrivals.proofs.Readying.{range_unhidden}
 
 pub page_count-count-requires-clause-fits : goal.page_count-count-requires-clause-fits
 page_count-count-requires-clause-fits g c = (pooled_roomy c.copy_laws.ensures c.args.kernel.now c.args.id.0 c.args.range.now c.requires.good (pooled_aim c.args.kernel.now c.args.id.0 c.args.range.now c.requires.pending c.requires.case c.requires.target)).fits
@@ -98,3 +101,22 @@ returns-in-Err-own_pages-clause-rises g c =
 
 pub returns-in-Err-clause-rises : goal.returns-in-Err-clause-rises
 returns-in-Err-clause-rises g c = rises_most (2 ^ 20) (2 ^ 22) c.args.kernel.now.memory.frames c.make_frames.new.kernel.memory.frames (omega arith) c.make_frames.ensures.rises
+
+pub returns-in-Ok-own_pages-clause-copies : goal.returns-in-Ok-own_pages-clause-copies
+returns-in-Ok-own_pages-clause-copies g c =
+    let k = c.args.kernel.now in
+    let a = pooled_aim k c.args.id.0 c.args.range.now c.requires.pending c.requires.case c.requires.target in
+    let out = range_unhidden c.copy_laws.ensures k c.args.id.0 a.t c.args.range.now c.requires.good a.found a.is.class_is a.is.inward a.target in
+    let page : c.get-page.result ≡ k.config.page = c.get-page.ensures.number ∙ c.page.ensures ∙ c.requires.good.spaced.page in
+    own_copies k c.make_frames.new.kernel.memory c.own_pages.new.memory c.args.range.now.object.0 c.args.range.now.off c.args.range.now.len _ _ c.requires.good out c.make_frames.ensures.costs c.make_frames.ensures.copies (ap (λ (z : ℕ). c.args.range.now.off / z) page) (c.page_count-count.ensures.number ∙ ap (λ (z : ℕ). span z c.args.range.now.off c.args.range.now.len) page) c.own_pages.ensures.owns.copies
+
+pub returns-in-Err-own_pages-clause-copies : goal.returns-in-Err-own_pages-clause-copies
+returns-in-Err-own_pages-clause-copies g c =
+    let k = c.args.kernel.now in
+    let a = pooled_aim k c.args.id.0 c.args.range.now c.requires.pending c.requires.case c.requires.target in
+    let out = range_unhidden c.copy_laws.ensures k c.args.id.0 a.t c.args.range.now c.requires.good a.found a.is.class_is a.is.inward a.target in
+    let page : c.get-page.result ≡ k.config.page = c.get-page.ensures.number ∙ c.page.ensures ∙ c.requires.good.spaced.page in
+    own_copies k c.make_frames.new.kernel.memory c.own_pages.new.memory c.args.range.now.object.0 c.args.range.now.off c.args.range.now.len _ _ c.requires.good out c.make_frames.ensures.costs c.make_frames.ensures.copies (ap (λ (z : ℕ). c.args.range.now.off / z) page) (c.page_count-count.ensures.number ∙ ap (λ (z : ℕ). span z c.args.range.now.off c.args.range.now.len) page) c.own_pages.ensures.owns.copies
+
+pub returns-in-Err-clause-copies : goal.returns-in-Err-clause-copies
+returns-in-Err-clause-copies g c = copies_more 0 _ c.args.kernel.now.memory c.make_frames.new.kernel.memory (omega arith) c.make_frames.ensures.copies
