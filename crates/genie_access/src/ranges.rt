@@ -41,6 +41,7 @@ pub fn read_range<S: Store>(
     ensures narrow { (i : ℕ) → (entry_at memory.new.objects object.0 i).writable ≡ true → (entry_at memory.old.objects object.0 i).writable ≡ true }
     ensures bytes { OnOk result (ReadsObject memory.old (S.view store.old) object.0 off n into.old into.new) }
     ensures rises { MetersRise (2 ^ 15) memory.old.frames memory.new.frames }
+    ensures landed { memory.new.frames.landed ≡ memory.old.frames.landed }
     ensures copies { CopiesAtMost (n + memory.old.frames.page * count_in is_untouched memory.old (pages_at memory.old.frames.page object.0 off n)) memory.old memory.new }
 {
     let page = memory.frames.page();

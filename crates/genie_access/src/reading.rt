@@ -58,6 +58,7 @@ pub(crate) fn make_two<S: Store>(kernel: &mut Kernel, store: &mut S) -> Result<(
     ensures room { OnOk result (HasTwo kernel.new.memory) }
     ensures meters { AreBelow (2 ^ 63 + 2 ^ 20) kernel.new.memory.frames.meters }
     ensures rises { MetersRise (2 ^ 13) kernel.old.memory.frames kernel.new.memory.frames }
+    ensures landed { kernel.new.memory.frames.landed ≡ kernel.old.memory.frames.landed }
     ensures copies { CopiesAtMost 0 kernel.old.memory kernel.new.memory }
     ensures costs { NoDearer (objects_of kernel.old.hidden) kernel.old.memory kernel.new.memory }
     ensures cause { HasCause (S.view store.old).faults (S.view store.new).faults result }
@@ -96,6 +97,7 @@ fn read_into<S: Store>(
     ensures cause { HasCause (S.view store.old).faults (S.view store.new).faults result }
     ensures bytes { OnOk result (ReadsAt kernel.old (S.view store.old) pid addr len into.new) }
     ensures rises { MetersRise (2 ^ 36) kernel.old.memory.frames kernel.new.memory.frames }
+    ensures landed { kernel.new.memory.frames.landed ≡ kernel.old.memory.frames.landed }
     ensures copies { CopiesAtMost (event_bound kernel.old (event.Read pid addr len)) kernel.old.memory kernel.new.memory }
 {
     let (object, off) = find_place(kernel, pid, addr, len);
@@ -136,6 +138,7 @@ pub fn read<'a, S: Store>(
     // Only the bytes read are moved, and untouched pages are zeroed.
     ensures copying { KeepsToBound kernel.old (event.Read pid addr len) kernel.new result }
     ensures rises { MetersRise (2 ^ 36) kernel.old.memory.frames kernel.new.memory.frames }
+    ensures landed { kernel.new.memory.frames.landed ≡ kernel.old.memory.frames.landed }
 {
     memory_calls_keep_good();
     view_is_tidy();

@@ -42,6 +42,7 @@ fn write_from<S: Store>(
     ensures failed { OnErr result (KeepsSeen kernel.old kernel.new.memory (S.view store.old) (S.view store.new)) }
     ensures cause { HasCause (S.view store.old).faults (S.view store.new).faults result }
     ensures rises { MetersRise (2 ^ 36) kernel.old.memory.frames kernel.new.memory.frames }
+    ensures landed { kernel.new.memory.frames.landed ≡ kernel.old.memory.frames.landed }
     ensures copies { CopiesAtMost (event_bound kernel.old (event.Write pid addr bytes.now)) kernel.old.memory kernel.new.memory }
 {
     let (object, off) = find_place(kernel, pid, addr, bytes.len() as u32);
@@ -82,6 +83,7 @@ pub fn write<S: Store>(
     // Only the bytes written are moved, and pages that can't be written in place are copied or zeroed.
     ensures copying { KeepsToBound kernel.old (event.Write pid addr bytes.now) kernel.new result }
     ensures rises { MetersRise (2 ^ 36) kernel.old.memory.frames kernel.new.memory.frames }
+    ensures landed { kernel.new.memory.frames.landed ≡ kernel.old.memory.frames.landed }
 {
     memory_calls_keep_good();
     view_is_tidy();
