@@ -41,6 +41,7 @@ fn begin_hidden<S: Store>(
     ensures answered { IsAnswered kernel.old call.now kernel.new (S.view store.old) (S.view store.new) result }
     ensures copies { KeepsToRow kernel.old call.now range.now kernel.new result }
     ensures rises { MetersRise (2 ^ 33) kernel.old.memory.frames kernel.new.memory.frames }
+    ensures landed { kernel.new.memory.frames.landed ≡ kernel.old.memory.frames.landed }
 {
     output_laws();
     removal_laws();
@@ -97,6 +98,7 @@ pub fn out_hidden<S: Store>(
     ensures cause { StoreCause (mark_of result) (S.view store.old).faults (S.view store.new).faults }
     ensures copying { KeepsToBound kernel.old (event.Output pid sem dev port flow addr len) kernel.new result }
     ensures rises { MetersRise (2 ^ 36) kernel.old.memory.frames kernel.new.memory.frames }
+    ensures landed { kernel.new.memory.frames.landed ≡ kernel.old.memory.frames.landed }
 {
     output_laws();
     let call = Call {

@@ -65,6 +65,7 @@ pub fn out<S: Store>(
     // for those that a device reads or writes in place.
     ensures lends { LendsFrames kernel.old kernel.new (record { pid = pid; sem = sem; dev = dev; port = port; flow = flow; addr = addr; len = len }) result }
     ensures rises { MetersRise (2 ^ 36) kernel.old.memory.frames kernel.new.memory.frames }
+    ensures landed { kernel.new.memory.frames.landed ≡ kernel.old.memory.frames.landed }
 {
     match sem.class() {
         Class::Copy => {

@@ -45,6 +45,7 @@ fn begin_copied<S: Store>(
     ensures copies { KeepsToRow kernel.old call.now range.now kernel.new result }
     ensures lends { (n : ℕ) → result ≡ reply.Id n → LendsCopies kernel.old kernel.new }
     ensures rises { MetersRise (2 ^ 33) kernel.old.memory.frames kernel.new.memory.frames }
+    ensures landed { kernel.new.memory.frames.landed ≡ kernel.old.memory.frames.landed }
 {
     output_laws();
     let id = kernel.next;
@@ -92,6 +93,7 @@ pub fn out_copied<S: Store>(
     ensures copying { KeepsToBound kernel.old (event.Output pid sem dev port flow addr len) kernel.new result }
     ensures lends { (n : ℕ) → result ≡ reply.Id n → LendsCopies kernel.old kernel.new }
     ensures rises { MetersRise (2 ^ 36) kernel.old.memory.frames kernel.new.memory.frames }
+    ensures landed { kernel.new.memory.frames.landed ≡ kernel.old.memory.frames.landed }
 {
     output_laws();
     let call = Call {
