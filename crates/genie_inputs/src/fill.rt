@@ -74,6 +74,7 @@ pub fn fill<S: Store>(kernel: &mut Kernel, store: &mut S, call: Call) -> Reply<'
     ensures answered { IsAnswered kernel.old kernel.new (S.view store.old) (S.view store.new) (input_event call None) result }
     ensures cause { StoreCause (mark_of result) (S.view store.old).faults (S.view store.new).faults }
     ensures rises { MetersRise (2 ^ 36) kernel.old.memory.frames kernel.new.memory.frames }
+    ensures landed { kernel.new.memory.frames.landed ≡ kernel.old.memory.frames.landed }
     ensures copying { KeepsToBound kernel.old (input_event call None) kernel.new result }
 {
     input_laws();

@@ -40,6 +40,7 @@ fn input_at<S: Store>(kernel: &mut Kernel, store: &mut S, call: Call, addr: u32)
     ensures answered { IsAnswered kernel.old kernel.new (S.view store.old) (S.view store.new) (input_event call (Some addr)) result }
     ensures cause { StoreCause (mark_of result) (S.view store.old).faults (S.view store.new).faults }
     ensures rises { MetersRise (2 ^ 36) kernel.old.memory.frames kernel.new.memory.frames }
+    ensures landed { kernel.new.memory.frames.landed ≡ kernel.old.memory.frames.landed }
     ensures copying { KeepsToBound kernel.old (input_event call (Some addr)) kernel.new result }
 {
     match call.sem.class() {
@@ -61,6 +62,7 @@ fn input_weakly<S: Store>(kernel: &mut Kernel, store: &mut S, call: Call) -> Rep
     ensures answered { IsAnswered kernel.old kernel.new (S.view store.old) (S.view store.new) (input_event call None) result }
     ensures cause { StoreCause (mark_of result) (S.view store.old).faults (S.view store.new).faults }
     ensures rises { MetersRise (2 ^ 36) kernel.old.memory.frames kernel.new.memory.frames }
+    ensures landed { kernel.new.memory.frames.landed ≡ kernel.old.memory.frames.landed }
     ensures copying { KeepsToBound kernel.old (input_event call None) kernel.new result }
 {
     match find_reusable(kernel, call) {
@@ -80,6 +82,7 @@ fn input_anywhere<S: Store>(kernel: &mut Kernel, store: &mut S, call: Call) -> R
     ensures answered { IsAnswered kernel.old kernel.new (S.view store.old) (S.view store.new) (input_event call None) result }
     ensures cause { StoreCause (mark_of result) (S.view store.old).faults (S.view store.new).faults }
     ensures rises { MetersRise (2 ^ 36) kernel.old.memory.frames kernel.new.memory.frames }
+    ensures landed { kernel.new.memory.frames.landed ≡ kernel.old.memory.frames.landed }
     ensures copying { KeepsToBound kernel.old (input_event call None) kernel.new result }
     ensures reuses { ReusesHidden kernel.old kernel.new call result }
 {
@@ -121,6 +124,7 @@ pub fn input<S: Store>(
     ensures step { (host : HostView) → StepsTold (view kernel.old host (S.view store.old)) (event.Input pid sem dev port flow addr len) (view kernel.new host (S.view store.new)) result }
     ensures cause { StoreCause (mark_of result) (S.view store.old).faults (S.view store.new).faults }
     ensures rises { MetersRise (2 ^ 36) kernel.old.memory.frames kernel.new.memory.frames }
+    ensures landed { kernel.new.memory.frames.landed ≡ kernel.old.memory.frames.landed }
 
     // Before its bytes come, an input by copy or by move makes the processor move none, and a weak one those of the pages of
     // its buffer that can't be written in place.
