@@ -54,6 +54,7 @@ fn take_hidden(kernel: &mut Kernel, id: TransferId, call: Call, place: Placement
     ensures unchanged { result ≡ None → kernel.new ≡ kernel.old }
     ensures rises { IfSome result (λ _. MetersRise (2 ^ 20) kernel.old.memory.frames kernel.new.memory.frames) }
     ensures landed { IfSome result (λ _. kernel.new.memory.frames.landed ≡ kernel.old.memory.frames.landed) }
+    ensures gets { IfSome result (λ _. kernel.new.memory.frames.meters.gets ≡ kernel.old.memory.frames.meters.gets) }
     ensures copying { IfSome result (λ _. CopiesAtMost 0 kernel.old.memory kernel.new.memory) }
 {
     if !may_reuse(kernel, call) {
@@ -87,6 +88,7 @@ fn lend_anew<S: Store>(
     ensures cause { HasCause (S.view store.old).faults (S.view store.new).faults result }
     ensures rises { MetersRise (2 ^ 20) kernel.old.memory.frames kernel.new.memory.frames }
     ensures landed { kernel.new.memory.frames.landed ≡ kernel.old.memory.frames.landed }
+    ensures gets { kernel.new.memory.frames.meters.gets ≡ kernel.old.memory.frames.meters.gets }
     ensures copying { CopiesAtMost 0 kernel.old.memory kernel.new.memory }
 {
     input_laws();
@@ -115,6 +117,7 @@ pub(crate) fn lend_held<S: Store>(
     ensures cause { HasCause (S.view store.old).faults (S.view store.new).faults result }
     ensures rises { MetersRise (2 ^ 20) kernel.old.memory.frames kernel.new.memory.frames }
     ensures landed { kernel.new.memory.frames.landed ≡ kernel.old.memory.frames.landed }
+    ensures gets { kernel.new.memory.frames.meters.gets ≡ kernel.old.memory.frames.meters.gets }
     ensures copying { CopiesAtMost 0 kernel.old.memory kernel.new.memory }
 {
     memory_moves();

@@ -14,6 +14,7 @@ ghost use Rattle.genie_kernel.specs.Rising.{MetersRise};
 ghost use Rattle.genie_kernel.specs.Steps.{StepsTold, StoreCause};
 ghost use Rattle.genie_kernel.specs.View.{outline, view};
 ghost use Rattle.genie_copying.specs.Bounds.{KeepsToBound};
+ghost use Rattle.genie_copying.specs.Getting.{pages_most};
 ghost use Rattle.genie_inputs.specs.Calls.{input_event};
 ghost use Rattle.genie_inputs.specs.HiddenReuse.{ReusesHidden};
 ghost use Rattle.genie_inputs.specs.Posting.{IsAnswered};
@@ -41,6 +42,7 @@ fn input_at<S: Store>(kernel: &mut Kernel, store: &mut S, call: Call, addr: u32)
     ensures cause { StoreCause (mark_of result) (S.view store.old).faults (S.view store.new).faults }
     ensures rises { MetersRise (2 ^ 36) kernel.old.memory.frames kernel.new.memory.frames }
     ensures landed { kernel.new.memory.frames.landed ≡ kernel.old.memory.frames.landed }
+    ensures gets { kernel.new.memory.frames.meters.gets ≤ kernel.old.memory.frames.meters.gets + pages_most kernel.old (input_event call (Some addr)) }
     ensures copying { KeepsToBound kernel.old (input_event call (Some addr)) kernel.new result }
 {
     match call.sem.class() {
@@ -63,6 +65,7 @@ fn input_weakly<S: Store>(kernel: &mut Kernel, store: &mut S, call: Call) -> Rep
     ensures cause { StoreCause (mark_of result) (S.view store.old).faults (S.view store.new).faults }
     ensures rises { MetersRise (2 ^ 36) kernel.old.memory.frames kernel.new.memory.frames }
     ensures landed { kernel.new.memory.frames.landed ≡ kernel.old.memory.frames.landed }
+    ensures gets { kernel.new.memory.frames.meters.gets ≤ kernel.old.memory.frames.meters.gets + pages_most kernel.old (input_event call None) }
     ensures copying { KeepsToBound kernel.old (input_event call None) kernel.new result }
 {
     match find_reusable(kernel, call) {
@@ -83,6 +86,7 @@ fn input_anywhere<S: Store>(kernel: &mut Kernel, store: &mut S, call: Call) -> R
     ensures cause { StoreCause (mark_of result) (S.view store.old).faults (S.view store.new).faults }
     ensures rises { MetersRise (2 ^ 36) kernel.old.memory.frames kernel.new.memory.frames }
     ensures landed { kernel.new.memory.frames.landed ≡ kernel.old.memory.frames.landed }
+    ensures gets { kernel.new.memory.frames.meters.gets ≤ kernel.old.memory.frames.meters.gets + pages_most kernel.old (input_event call None) }
     ensures copying { KeepsToBound kernel.old (input_event call None) kernel.new result }
     ensures reuses { ReusesHidden kernel.old kernel.new call result }
 {
@@ -125,6 +129,7 @@ pub fn input<S: Store>(
     ensures cause { StoreCause (mark_of result) (S.view store.old).faults (S.view store.new).faults }
     ensures rises { MetersRise (2 ^ 36) kernel.old.memory.frames kernel.new.memory.frames }
     ensures landed { kernel.new.memory.frames.landed ≡ kernel.old.memory.frames.landed }
+    ensures gets { kernel.new.memory.frames.meters.gets ≤ kernel.old.memory.frames.meters.gets + pages_most kernel.old (event.Input pid sem dev port flow addr len) }
 
     // Before its bytes come, an input by copy or by move makes the processor move none, and a weak one those of the pages of
     // its buffer that can't be written in place.

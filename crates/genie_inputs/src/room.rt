@@ -35,6 +35,7 @@ pub(crate) fn make_free<S: Store>(
     ensures cause { HasCause (S.view store.old).faults (S.view store.new).faults result }
     ensures rises { MetersRise (2 ^ 13) kernel.old.memory.frames kernel.new.memory.frames }
     ensures landed { kernel.new.memory.frames.landed ≡ kernel.old.memory.frames.landed }
+    ensures gets { kernel.new.memory.frames.meters.gets ≡ kernel.old.memory.frames.meters.gets }
     ensures copying { CopiesAtMost 0 kernel.old.memory kernel.new.memory }
     ensures costs { NoDearer (objects_of kernel.old.hidden) kernel.old.memory kernel.new.memory }
 {
