@@ -141,6 +141,8 @@ pub fn read<'a, S: Store>(
     // Only the bytes read are moved, and untouched pages are zeroed.
     ensures copying { KeepsToBound kernel.old (event.Read pid addr len) kernel.new result }
     ensures rises { MetersRise (2 ^ 36) kernel.old.memory.frames kernel.new.memory.frames }
+
+    // No byte of a device lands by it, and no more pages come from the store than it reaches.
     ensures landed { kernel.new.memory.frames.landed ≡ kernel.old.memory.frames.landed }
     ensures gets { kernel.new.memory.frames.meters.gets ≤ kernel.old.memory.frames.meters.gets + pages_most kernel.old (event.Read pid addr len) }
 {

@@ -85,6 +85,8 @@ pub fn write<S: Store>(
     // Only the bytes written are moved, and pages that can't be written in place are copied or zeroed.
     ensures copying { KeepsToBound kernel.old (event.Write pid addr bytes.now) kernel.new result }
     ensures rises { MetersRise (2 ^ 36) kernel.old.memory.frames kernel.new.memory.frames }
+
+    // No byte of a device lands by it, and no more pages come from the store than it reaches.
     ensures landed { kernel.new.memory.frames.landed ≡ kernel.old.memory.frames.landed }
     ensures gets { kernel.new.memory.frames.meters.gets ≤ kernel.old.memory.frames.meters.gets + pages_most kernel.old (event.Write pid addr bytes.now) }
 {

@@ -18,7 +18,7 @@ use Rattle.genie_kernel.specs.declared.transfer.Loans.{Loans}
 use Rattle.genie_kernel.specs.Good.{IsGood}
 use Rattle.genie_kernel.specs.View.{outline}
 use Rattle.genie_copying.specs.Getting.{input_pages, number_of, pages_most}
-use Rattle.genie_copying.specs.Ranges.{Pages, pages_at, pages_in, pages_reached}
+use Rattle.genie_copying.specs.Ranges.{pages_at, pages_in, pages_reached}
 use Rattle.genie_inputs.specs.declared.call.Call.{Call}
 use Rattle.genie_inputs.specs.Buffers.{LendsBuffer}
 use Rattle.genie_inputs.specs.Calls.{input_event}

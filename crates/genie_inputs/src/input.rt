@@ -128,6 +128,8 @@ pub fn input<S: Store>(
     ensures step { (host : HostView) → StepsTold (view kernel.old host (S.view store.old)) (event.Input pid sem dev port flow addr len) (view kernel.new host (S.view store.new)) result }
     ensures cause { StoreCause (mark_of result) (S.view store.old).faults (S.view store.new).faults }
     ensures rises { MetersRise (2 ^ 36) kernel.old.memory.frames kernel.new.memory.frames }
+
+    // No byte of a device lands by it yet, and no more pages come from the store than a weak call names.
     ensures landed { kernel.new.memory.frames.landed ≡ kernel.old.memory.frames.landed }
     ensures gets { kernel.new.memory.frames.meters.gets ≤ kernel.old.memory.frames.meters.gets + pages_most kernel.old (event.Input pid sem dev port flow addr len) }
 

@@ -66,6 +66,8 @@ pub fn out<S: Store>(
     // for those that a device reads or writes in place.
     ensures lends { LendsFrames kernel.old kernel.new (record { pid = pid; sem = sem; dev = dev; port = port; flow = flow; addr = addr; len = len }) result }
     ensures rises { MetersRise (2 ^ 36) kernel.old.memory.frames kernel.new.memory.frames }
+
+    // No byte of a device lands by it, and no more pages come from the store than it reaches.
     ensures landed { kernel.new.memory.frames.landed ≡ kernel.old.memory.frames.landed }
     ensures gets { kernel.new.memory.frames.meters.gets ≤ kernel.old.memory.frames.meters.gets + pages_most kernel.old (event.Output pid sem dev port flow addr len) }
 {
