@@ -76,7 +76,7 @@ pub put_two : (bytes n k all : ℕ) (old mid : Memory) (s t : FrameTable) (f x g
 put_two bytes n k all old mid s t f x g y a b whole c d e = omega (arith, c, whole, put_work s mid.frames f x n a d, put_work t s g y k b e)
 
 -- the pages that an access reaches are those of the object to which it leads
-led_pages : (k : Kernel) (p a n : ℕ) (o : ObjectId) (off : ℕ) → LeadsTo k p a n o off → pages_reached k p a n ≡ Some (pages_at k.config.page o.0 off n)
+pub led_pages : (k : Kernel) (p a n : ℕ) (o : ObjectId) (off : ℕ) → LeadsTo k p a n o off → pages_reached k p a n ≡ Some (pages_at k.config.page o.0 off n)
 led_pages k p a n o off l = ap (option_map (pages_in k.config.page a n)) l.found ∙ (λ i. Some (pages_at k.config.page (sym l.object_is i).0 (sym l.place i) n))
 
 -- room was made, and then no more was copied than the pages cost that the event found

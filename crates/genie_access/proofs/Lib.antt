@@ -8,4 +8,5 @@ mod Stored
 mod Changed
 mod Wrote
 pub mod Copied
+pub mod Getting
 mod Rising

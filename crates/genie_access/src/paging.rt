@@ -33,6 +33,8 @@ fn put_pages<S: Store>(kernel: &mut Kernel, store: &mut S, n: u32) -> Result<(),
     ensures puts { PutsPages n (allowed kernel.old.memory (objects_of kernel.old.hidden)) kernel.old.memory kernel.new.memory (reply_to result) }
     ensures meters { Spends 0 0 8192 0 kernel.old.memory.frames.meters kernel.new.memory.frames.meters }
     ensures rises { MetersRise (2 ^ 36) kernel.old.memory.frames kernel.new.memory.frames }
+    ensures landed { kernel.new.memory.frames.landed ≡ kernel.old.memory.frames.landed }
+    ensures gets { kernel.new.memory.frames.meters.gets ≡ kernel.old.memory.frames.meters.gets }
 {
     places_suffice();
     match genie_pageout::pageout(
@@ -77,6 +79,10 @@ pub fn pageout<S: Store>(kernel: &mut Kernel, store: &mut S, n: u32) -> Reply<'s
     ensures puts { PutsPages n (allowed kernel.old.memory (objects_of kernel.old.hidden)) kernel.old.memory kernel.new.memory result }
     ensures meters { Spends 0 0 8192 0 kernel.old.memory.frames.meters kernel.new.memory.frames.meters }
     ensures rises { MetersRise (2 ^ 36) kernel.old.memory.frames kernel.new.memory.frames }
+
+    // No byte of a device lands by it, and no page comes from the store.
+    ensures landed { kernel.new.memory.frames.landed ≡ kernel.old.memory.frames.landed }
+    ensures gets { kernel.new.memory.frames.meters.gets ≡ kernel.old.memory.frames.meters.gets }
     ensures copying { KeepsToBound kernel.old (event.Pageout n) kernel.new result }
 {
     memory_calls_keep_good();

@@ -1,6 +1,7 @@
 //! Bytes of a region's pages are read into a buffer.
 ghost use Rattle.std.specs.Prelude.{◌≡◌, ℕ, true, ◌+◌, ◌*◌, ◌<◌, ◌≤◌, ◌^◌, length, count_by, OnOk};
 ghost use Rattle.genie_base.specs.Causes.{HasCause};
+ghost use Rattle.genie_base.specs.Counts.{span};
 ghost use Rattle.genie_frame.specs.FrameTable.{is_free};
 ghost use Rattle.genie_object.specs.Calls.{OnlyMoves};
 ghost use Rattle.genie_object.specs.Costs.{AreBelow, is_untouched};
@@ -41,6 +42,8 @@ pub fn read_range<S: Store>(
     ensures narrow { (i : ℕ) → (entry_at memory.new.objects object.0 i).writable ≡ true → (entry_at memory.old.objects object.0 i).writable ≡ true }
     ensures bytes { OnOk result (ReadsObject memory.old (S.view store.old) object.0 off n into.old into.new) }
     ensures rises { MetersRise (2 ^ 15) memory.old.frames memory.new.frames }
+    ensures landed { memory.new.frames.landed ≡ memory.old.frames.landed }
+    ensures gets { memory.new.frames.meters.gets ≤ memory.old.frames.meters.gets + span memory.old.frames.page off n }
     ensures copies { CopiesAtMost (n + memory.old.frames.page * count_in is_untouched memory.old (pages_at memory.old.frames.page object.0 off n)) memory.old memory.new }
 {
     let page = memory.frames.page();

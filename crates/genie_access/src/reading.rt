@@ -14,6 +14,7 @@ ghost use Rattle.genie_kernel.specs.Steps.{StepsTold, StoreCause};
 ghost use Rattle.genie_kernel.specs.View.{view, outline};
 ghost use Rattle.genie_hiding.specs.Hidden.{objects_of};
 ghost use Rattle.genie_copying.specs.Bounds.{event_bound, KeepsToBound};
+ghost use Rattle.genie_copying.specs.Getting.{pages_most};
 ghost use Rattle.genie_copying.specs.Spending.{CopiesAtMost, NoDearer};
 ghost use Rattle.genie_access.specs.Moving.{with_memory, KeepsSeen, HasTwo};
 ghost use Rattle.genie_access.specs.Reached.{LeadsTo, ReadsAt};
@@ -58,6 +59,8 @@ pub(crate) fn make_two<S: Store>(kernel: &mut Kernel, store: &mut S) -> Result<(
     ensures room { OnOk result (HasTwo kernel.new.memory) }
     ensures meters { AreBelow (2 ^ 63 + 2 ^ 20) kernel.new.memory.frames.meters }
     ensures rises { MetersRise (2 ^ 13) kernel.old.memory.frames kernel.new.memory.frames }
+    ensures landed { kernel.new.memory.frames.landed ≡ kernel.old.memory.frames.landed }
+    ensures gets { kernel.new.memory.frames.meters.gets ≡ kernel.old.memory.frames.meters.gets }
     ensures copies { CopiesAtMost 0 kernel.old.memory kernel.new.memory }
     ensures costs { NoDearer (objects_of kernel.old.hidden) kernel.old.memory kernel.new.memory }
     ensures cause { HasCause (S.view store.old).faults (S.view store.new).faults result }
@@ -96,6 +99,8 @@ fn read_into<S: Store>(
     ensures cause { HasCause (S.view store.old).faults (S.view store.new).faults result }
     ensures bytes { OnOk result (ReadsAt kernel.old (S.view store.old) pid addr len into.new) }
     ensures rises { MetersRise (2 ^ 36) kernel.old.memory.frames kernel.new.memory.frames }
+    ensures landed { kernel.new.memory.frames.landed ≡ kernel.old.memory.frames.landed }
+    ensures gets { kernel.new.memory.frames.meters.gets ≤ kernel.old.memory.frames.meters.gets + pages_most kernel.old (event.Read pid addr len) }
     ensures copies { CopiesAtMost (event_bound kernel.old (event.Read pid addr len)) kernel.old.memory kernel.new.memory }
 {
     let (object, off) = find_place(kernel, pid, addr, len);
@@ -136,6 +141,10 @@ pub fn read<'a, S: Store>(
     // Only the bytes read are moved, and untouched pages are zeroed.
     ensures copying { KeepsToBound kernel.old (event.Read pid addr len) kernel.new result }
     ensures rises { MetersRise (2 ^ 36) kernel.old.memory.frames kernel.new.memory.frames }
+
+    // No byte of a device lands by it, and no more pages come from the store than it reaches.
+    ensures landed { kernel.new.memory.frames.landed ≡ kernel.old.memory.frames.landed }
+    ensures gets { kernel.new.memory.frames.meters.gets ≤ kernel.old.memory.frames.meters.gets + pages_most kernel.old (event.Read pid addr len) }
 {
     memory_calls_keep_good();
     view_is_tidy();

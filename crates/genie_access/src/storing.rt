@@ -1,6 +1,7 @@
 //! Bytes are stored in a region's pages.
-ghost use Rattle.std.specs.Prelude.{◌+◌, ◌*◌, ◌≤◌, ◌^◌, length, count_by, OnOk, OnErr};
+ghost use Rattle.std.specs.Prelude.{◌≡◌, ◌+◌, ◌*◌, ◌≤◌, ◌^◌, length, count_by, OnOk, OnErr};
 ghost use Rattle.genie_base.specs.Causes.{HasCause};
+ghost use Rattle.genie_base.specs.Counts.{span};
 ghost use Rattle.genie_frame.specs.FrameTable.{is_free};
 ghost use Rattle.genie_object.specs.Calls.{OnlyMoves};
 ghost use Rattle.genie_object.specs.Costs.{AreBelow};
@@ -42,6 +43,8 @@ pub fn write_range<S: Store>(
     ensures failed { OnErr result (OnlyMoves (is_of_object object.0) memory.old memory.new (S.view store.old) (S.view store.new)) }
     ensures cause { HasCause (S.view store.old).faults (S.view store.new).faults result }
     ensures rises { MetersRise (2 ^ 16) memory.old.frames memory.new.frames }
+    ensures landed { memory.new.frames.landed ≡ memory.old.frames.landed }
+    ensures gets { memory.new.frames.meters.gets ≤ memory.old.frames.meters.gets + span memory.old.frames.page off (length bytes.now) }
     ensures copies { CopiesAtMost (length bytes.now + memory.old.frames.page * count_in is_fixed memory.old (pages_at memory.old.frames.page object.0 off (length bytes.now))) memory.old memory.new }
 {
     let page = memory.frames.page();

@@ -1,5 +1,5 @@
 //! A process writes its memory.
-ghost use Rattle.std.specs.Prelude.{◌≡◌, ◌≤◌, ◌^◌, None, length, OnOk, OnErr};
+ghost use Rattle.std.specs.Prelude.{◌≡◌, ◌+◌, ◌≤◌, ◌^◌, None, length, OnOk, OnErr};
 ghost use Rattle.genie_base.specs.Causes.{HasCause};
 ghost use Rattle.genie_base.specs.Events.{mark_of};
 ghost use Rattle.genie_base.specs.declared.event.Event.TheVariants as event;
@@ -13,6 +13,7 @@ ghost use Rattle.genie_kernel.specs.Rising.{MetersRise};
 ghost use Rattle.genie_kernel.specs.Steps.{StepsTold, StoreCause};
 ghost use Rattle.genie_kernel.specs.View.{view, outline};
 ghost use Rattle.genie_copying.specs.Bounds.{event_bound, KeepsToBound};
+ghost use Rattle.genie_copying.specs.Getting.{pages_most};
 ghost use Rattle.genie_copying.specs.Spending.{CopiesAtMost};
 ghost use Rattle.genie_access.specs.Moving.{with_memory, KeepsSeen};
 ghost use Rattle.genie_access.specs.Storing.{WritesAt};
@@ -42,6 +43,8 @@ fn write_from<S: Store>(
     ensures failed { OnErr result (KeepsSeen kernel.old kernel.new.memory (S.view store.old) (S.view store.new)) }
     ensures cause { HasCause (S.view store.old).faults (S.view store.new).faults result }
     ensures rises { MetersRise (2 ^ 36) kernel.old.memory.frames kernel.new.memory.frames }
+    ensures landed { kernel.new.memory.frames.landed ≡ kernel.old.memory.frames.landed }
+    ensures gets { kernel.new.memory.frames.meters.gets ≤ kernel.old.memory.frames.meters.gets + pages_most kernel.old (event.Write pid addr bytes.now) }
     ensures copies { CopiesAtMost (event_bound kernel.old (event.Write pid addr bytes.now)) kernel.old.memory kernel.new.memory }
 {
     let (object, off) = find_place(kernel, pid, addr, bytes.len() as u32);
@@ -82,6 +85,10 @@ pub fn write<S: Store>(
     // Only the bytes written are moved, and pages that can't be written in place are copied or zeroed.
     ensures copying { KeepsToBound kernel.old (event.Write pid addr bytes.now) kernel.new result }
     ensures rises { MetersRise (2 ^ 36) kernel.old.memory.frames kernel.new.memory.frames }
+
+    // No byte of a device lands by it, and no more pages come from the store than it reaches.
+    ensures landed { kernel.new.memory.frames.landed ≡ kernel.old.memory.frames.landed }
+    ensures gets { kernel.new.memory.frames.meters.gets ≤ kernel.old.memory.frames.meters.gets + pages_most kernel.old (event.Write pid addr bytes.now) }
 {
     memory_calls_keep_good();
     view_is_tidy();

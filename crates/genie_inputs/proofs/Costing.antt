@@ -129,7 +129,7 @@ reused_region k c r good x =
     some.1 ∙ ap Some (same_number k some.0 r good (has_owned some.0 k.spaces.processes c.pid h.0) (reused_owned k c r x) (eqb-true some.0.id.0 r.id.0 h.1))
 
 -- as many pages as the bytes need hold them
-few_pages : (k : Kernel) (c : Call) → IsGood k → span k.config.page 0 c.len ≤ pages_of k c
+pub few_pages : (k : Kernel) (c : Call) → IsGood k → span k.config.page 0 c.len ≤ pages_of k c
 few_pages k c good =
     let whole = whole_pages k.config.page c.len (page_some k good) in
     let within = pages_within k.config.page 0 c.len (pages_of k c) (page_some k good) (omega (arith, whole)) in

@@ -20,3 +20,4 @@ mod Targeting
 mod Weakly
 mod Rising
 mod Costing
+mod Getting

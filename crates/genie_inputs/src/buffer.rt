@@ -77,6 +77,8 @@ pub(crate) fn lend_strongly<S: Store>(
     ensures moved { OnErr result (IsMoved kernel.old kernel.new (S.view store.old) (S.view store.new)) }
     ensures cause { HasCause (S.view store.old).faults (S.view store.new).faults result }
     ensures rises { MetersRise (2 ^ 20) kernel.old.memory.frames kernel.new.memory.frames }
+    ensures landed { kernel.new.memory.frames.landed ≡ kernel.old.memory.frames.landed }
+    ensures gets { kernel.new.memory.frames.meters.gets ≡ kernel.old.memory.frames.meters.gets }
     ensures copying { CopiesAtMost 0 kernel.old.memory kernel.new.memory }
 {
     let page = kernel.spaces.page().get();

@@ -35,6 +35,8 @@ pub fn copy<S: Store>(kernel: &mut Kernel, store: &mut S, call: Call, addr: u32)
     ensures answered { IsAnswered kernel.old kernel.new (S.view store.old) (S.view store.new) (input_event call (Some addr)) result }
     ensures cause { StoreCause (mark_of result) (S.view store.old).faults (S.view store.new).faults }
     ensures rises { MetersRise (2 ^ 36) kernel.old.memory.frames kernel.new.memory.frames }
+    ensures landed { kernel.new.memory.frames.landed ≡ kernel.old.memory.frames.landed }
+    ensures gets { kernel.new.memory.frames.meters.gets ≡ kernel.old.memory.frames.meters.gets }
     ensures copying { CopiesAtMost 0 kernel.old.memory kernel.new.memory }
 {
     input_laws();

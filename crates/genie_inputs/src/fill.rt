@@ -1,5 +1,5 @@
 //! Input into a new region, in which a device stores at once.
-ghost use Rattle.std.specs.Prelude.{◌≡◌, ◌+◌, ◌^◌, ◌<◌, IsSome, IsTrue, None};
+ghost use Rattle.std.specs.Prelude.{◌≤◌, ◌≡◌, ◌+◌, ◌^◌, ◌<◌, IsSome, IsTrue, None};
 ghost use Rattle.genie_base.specs.Events.{mark_of};
 ghost use Rattle.genie_base.specs.Transfers.{class_of};
 ghost use Rattle.genie_base.specs.declared.region.RegionState.TheVariants.{Live};
@@ -12,6 +12,7 @@ ghost use Rattle.genie_model.specs.Refusing.{must_make, refuse};
 ghost use Rattle.genie_kernel.specs.Good.{IsGood};
 ghost use Rattle.genie_kernel.specs.Rising.{MetersRise};
 ghost use Rattle.genie_copying.specs.Bounds.{KeepsToBound};
+ghost use Rattle.genie_copying.specs.Getting.{pages_most};
 ghost use Rattle.genie_kernel.specs.Steps.{StoreCause};
 ghost use Rattle.genie_kernel.specs.View.{outline};
 ghost use Rattle.genie_inputs.specs.Calls.{input_event};
@@ -74,6 +75,8 @@ pub fn fill<S: Store>(kernel: &mut Kernel, store: &mut S, call: Call) -> Reply<'
     ensures answered { IsAnswered kernel.old kernel.new (S.view store.old) (S.view store.new) (input_event call None) result }
     ensures cause { StoreCause (mark_of result) (S.view store.old).faults (S.view store.new).faults }
     ensures rises { MetersRise (2 ^ 36) kernel.old.memory.frames kernel.new.memory.frames }
+    ensures landed { kernel.new.memory.frames.landed ≡ kernel.old.memory.frames.landed }
+    ensures gets { kernel.new.memory.frames.meters.gets ≤ kernel.old.memory.frames.meters.gets + pages_most kernel.old (input_event call None) }
     ensures copying { KeepsToBound kernel.old (input_event call None) kernel.new result }
 {
     input_laws();

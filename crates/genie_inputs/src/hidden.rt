@@ -53,6 +53,8 @@ fn take_hidden(kernel: &mut Kernel, id: TransferId, call: Call, place: Placement
     ensures none { result ≡ None → may_reuse kernel.old call ≡ true → oldest_hidden call.pid place.start place.pages kernel.old.hidden ≡ None }
     ensures unchanged { result ≡ None → kernel.new ≡ kernel.old }
     ensures rises { IfSome result (λ _. MetersRise (2 ^ 20) kernel.old.memory.frames kernel.new.memory.frames) }
+    ensures landed { IfSome result (λ _. kernel.new.memory.frames.landed ≡ kernel.old.memory.frames.landed) }
+    ensures gets { IfSome result (λ _. kernel.new.memory.frames.meters.gets ≡ kernel.old.memory.frames.meters.gets) }
     ensures copying { IfSome result (λ _. CopiesAtMost 0 kernel.old.memory kernel.new.memory) }
 {
     if !may_reuse(kernel, call) {
@@ -85,6 +87,8 @@ fn lend_anew<S: Store>(
     ensures ready { OnErr result (IsReady kernel.old kernel.new (S.view store.old) (S.view store.new)) }
     ensures cause { HasCause (S.view store.old).faults (S.view store.new).faults result }
     ensures rises { MetersRise (2 ^ 20) kernel.old.memory.frames kernel.new.memory.frames }
+    ensures landed { kernel.new.memory.frames.landed ≡ kernel.old.memory.frames.landed }
+    ensures gets { kernel.new.memory.frames.meters.gets ≡ kernel.old.memory.frames.meters.gets }
     ensures copying { CopiesAtMost 0 kernel.old.memory kernel.new.memory }
 {
     input_laws();
@@ -112,6 +116,8 @@ pub(crate) fn lend_held<S: Store>(
     ensures ready { OnErr result (IsReady kernel.old kernel.new (S.view store.old) (S.view store.new)) }
     ensures cause { HasCause (S.view store.old).faults (S.view store.new).faults result }
     ensures rises { MetersRise (2 ^ 20) kernel.old.memory.frames kernel.new.memory.frames }
+    ensures landed { kernel.new.memory.frames.landed ≡ kernel.old.memory.frames.landed }
+    ensures gets { kernel.new.memory.frames.meters.gets ≡ kernel.old.memory.frames.meters.gets }
     ensures copying { CopiesAtMost 0 kernel.old.memory kernel.new.memory }
 {
     memory_moves();

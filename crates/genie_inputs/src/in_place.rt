@@ -61,6 +61,8 @@ pub(crate) fn lend_in_place<S: Store>(
     ensures moved { OnErr result (IsMoved kernel.old kernel.new (S.view store.old) (S.view store.new)) }
     ensures cause { HasCause (S.view store.old).faults (S.view store.new).faults result }
     ensures rises { MetersRise (2 ^ 21) kernel.old.memory.frames kernel.new.memory.frames }
+    ensures landed { kernel.new.memory.frames.landed ≡ kernel.old.memory.frames.landed }
+    ensures gets { kernel.new.memory.frames.meters.gets ≤ kernel.old.memory.frames.meters.gets + span kernel.old.config.page off len }
     ensures copying { CopiesAtMost (fixed_bytes kernel.old (Some (pages_at kernel.old.config.page region.object.0 off len))) kernel.old.memory kernel.new.memory }
 {
     memory_moves();

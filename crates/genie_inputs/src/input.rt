@@ -14,6 +14,7 @@ ghost use Rattle.genie_kernel.specs.Rising.{MetersRise};
 ghost use Rattle.genie_kernel.specs.Steps.{StepsTold, StoreCause};
 ghost use Rattle.genie_kernel.specs.View.{outline, view};
 ghost use Rattle.genie_copying.specs.Bounds.{KeepsToBound};
+ghost use Rattle.genie_copying.specs.Getting.{pages_most};
 ghost use Rattle.genie_inputs.specs.Calls.{input_event};
 ghost use Rattle.genie_inputs.specs.HiddenReuse.{ReusesHidden};
 ghost use Rattle.genie_inputs.specs.Posting.{IsAnswered};
@@ -40,6 +41,8 @@ fn input_at<S: Store>(kernel: &mut Kernel, store: &mut S, call: Call, addr: u32)
     ensures answered { IsAnswered kernel.old kernel.new (S.view store.old) (S.view store.new) (input_event call (Some addr)) result }
     ensures cause { StoreCause (mark_of result) (S.view store.old).faults (S.view store.new).faults }
     ensures rises { MetersRise (2 ^ 36) kernel.old.memory.frames kernel.new.memory.frames }
+    ensures landed { kernel.new.memory.frames.landed ≡ kernel.old.memory.frames.landed }
+    ensures gets { kernel.new.memory.frames.meters.gets ≤ kernel.old.memory.frames.meters.gets + pages_most kernel.old (input_event call (Some addr)) }
     ensures copying { KeepsToBound kernel.old (input_event call (Some addr)) kernel.new result }
 {
     match call.sem.class() {
@@ -61,6 +64,8 @@ fn input_weakly<S: Store>(kernel: &mut Kernel, store: &mut S, call: Call) -> Rep
     ensures answered { IsAnswered kernel.old kernel.new (S.view store.old) (S.view store.new) (input_event call None) result }
     ensures cause { StoreCause (mark_of result) (S.view store.old).faults (S.view store.new).faults }
     ensures rises { MetersRise (2 ^ 36) kernel.old.memory.frames kernel.new.memory.frames }
+    ensures landed { kernel.new.memory.frames.landed ≡ kernel.old.memory.frames.landed }
+    ensures gets { kernel.new.memory.frames.meters.gets ≤ kernel.old.memory.frames.meters.gets + pages_most kernel.old (input_event call None) }
     ensures copying { KeepsToBound kernel.old (input_event call None) kernel.new result }
 {
     match find_reusable(kernel, call) {
@@ -80,6 +85,8 @@ fn input_anywhere<S: Store>(kernel: &mut Kernel, store: &mut S, call: Call) -> R
     ensures answered { IsAnswered kernel.old kernel.new (S.view store.old) (S.view store.new) (input_event call None) result }
     ensures cause { StoreCause (mark_of result) (S.view store.old).faults (S.view store.new).faults }
     ensures rises { MetersRise (2 ^ 36) kernel.old.memory.frames kernel.new.memory.frames }
+    ensures landed { kernel.new.memory.frames.landed ≡ kernel.old.memory.frames.landed }
+    ensures gets { kernel.new.memory.frames.meters.gets ≤ kernel.old.memory.frames.meters.gets + pages_most kernel.old (input_event call None) }
     ensures copying { KeepsToBound kernel.old (input_event call None) kernel.new result }
     ensures reuses { ReusesHidden kernel.old kernel.new call result }
 {
@@ -121,6 +128,10 @@ pub fn input<S: Store>(
     ensures step { (host : HostView) → StepsTold (view kernel.old host (S.view store.old)) (event.Input pid sem dev port flow addr len) (view kernel.new host (S.view store.new)) result }
     ensures cause { StoreCause (mark_of result) (S.view store.old).faults (S.view store.new).faults }
     ensures rises { MetersRise (2 ^ 36) kernel.old.memory.frames kernel.new.memory.frames }
+
+    // No byte of a device lands by it yet, and no more pages come from the store than a weak call names.
+    ensures landed { kernel.new.memory.frames.landed ≡ kernel.old.memory.frames.landed }
+    ensures gets { kernel.new.memory.frames.meters.gets ≤ kernel.old.memory.frames.meters.gets + pages_most kernel.old (event.Input pid sem dev port flow addr len) }
 
     // Before its bytes come, an input by copy or by move makes the processor move none, and a weak one those of the pages of
     // its buffer that can't be written in place.

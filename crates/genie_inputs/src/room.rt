@@ -1,5 +1,5 @@
 //! Frames that an input may need.
-ghost use Rattle.std.specs.Prelude.{◌+◌, ◌^◌, ◌≤◌, count_by, OnOk};
+ghost use Rattle.std.specs.Prelude.{◌≡◌, ◌+◌, ◌^◌, ◌≤◌, count_by, OnOk};
 ghost use Rattle.genie_base.specs.Causes.{HasCause};
 ghost use Rattle.genie_frame.specs.FrameTable.{is_free};
 ghost use Rattle.genie_hiding.specs.Rooms.{available};
@@ -34,6 +34,8 @@ pub(crate) fn make_free<S: Store>(
     ensures meters { AreBelow (2 ^ 63 + 2 ^ 20) kernel.new.memory.frames.meters }
     ensures cause { HasCause (S.view store.old).faults (S.view store.new).faults result }
     ensures rises { MetersRise (2 ^ 13) kernel.old.memory.frames kernel.new.memory.frames }
+    ensures landed { kernel.new.memory.frames.landed ≡ kernel.old.memory.frames.landed }
+    ensures gets { kernel.new.memory.frames.meters.gets ≡ kernel.old.memory.frames.meters.gets }
     ensures copying { CopiesAtMost 0 kernel.old.memory kernel.new.memory }
     ensures costs { NoDearer (objects_of kernel.old.hidden) kernel.old.memory kernel.new.memory }
 {

@@ -1,5 +1,5 @@
 //! Input that a device stores in the application's buffer at once.
-ghost use Rattle.std.specs.Prelude.{◌≡◌, ◌+◌, ◌^◌, ◌<◌, None, Some};
+ghost use Rattle.std.specs.Prelude.{◌≤◌, ◌≡◌, ◌+◌, ◌^◌, ◌<◌, None, Some};
 ghost use Rattle.genie_base.specs.Events.{mark_of};
 ghost use Rattle.genie_base.specs.Transfers.{class_of};
 ghost use Rattle.genie_base.specs.declared.semantics.Class.TheVariants.{Share};
@@ -9,6 +9,7 @@ ghost use Rattle.genie_model.specs.Refusing.{refuse};
 ghost use Rattle.genie_kernel.specs.Good.{IsGood};
 ghost use Rattle.genie_kernel.specs.Rising.{MetersRise};
 ghost use Rattle.genie_copying.specs.Bounds.{KeepsToBound};
+ghost use Rattle.genie_copying.specs.Getting.{pages_most};
 ghost use Rattle.genie_kernel.specs.Steps.{StoreCause};
 ghost use Rattle.genie_kernel.specs.View.{outline};
 ghost use Rattle.genie_inputs.specs.Calls.{input_event};
@@ -38,6 +39,8 @@ pub fn share<S: Store>(kernel: &mut Kernel, store: &mut S, call: Call, addr: u32
     ensures answered { IsAnswered kernel.old kernel.new (S.view store.old) (S.view store.new) (input_event call (Some addr)) result }
     ensures cause { StoreCause (mark_of result) (S.view store.old).faults (S.view store.new).faults }
     ensures rises { MetersRise (2 ^ 36) kernel.old.memory.frames kernel.new.memory.frames }
+    ensures landed { kernel.new.memory.frames.landed ≡ kernel.old.memory.frames.landed }
+    ensures gets { kernel.new.memory.frames.meters.gets ≤ kernel.old.memory.frames.meters.gets + pages_most kernel.old (input_event call (Some addr)) }
     ensures copying { KeepsToBound kernel.old (input_event call (Some addr)) kernel.new result }
 {
     input_laws();

@@ -12,4 +12,5 @@ pub mod Given
 pub mod Gone
 pub mod Rows
 pub mod Rising
+pub mod Getting
 pub mod LentFrames

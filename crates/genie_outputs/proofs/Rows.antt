@@ -14,7 +14,7 @@ use Rattle.genie_store.specs.StoreView.{StoreView}
 use Rattle.genie_hiding.specs.Hidden.{objects_of, is_among}
 use Rattle.genie_object.specs.declared.memory.Memory.{Memory}
 use Rattle.genie_object.specs.declared.objects.Range.{Range}
-use Rattle.genie_object.specs.Costs.{work, is_untouched, write_work, writes_work}
+use Rattle.genie_object.specs.Costs.{work, is_untouched, writes_work}
 use Rattle.genie_object.specs.Memory.{entry_frame}
 use Rattle.genie_region.specs.declared.region.Region.{Region}
 use Rattle.genie_tcow.specs.Costs.{is_held_in, is_weakly_held as tcow_held, send_work, sends_work, reads_work}

@@ -1,5 +1,5 @@
 //! Frames that are lent as they are, in place of copies.
-ghost use Rattle.std.specs.Prelude.{◌≡◌, ◌≢◌, ℕ, ◌<◌, ◌+◌, ◌^◌, [], false, length, OnErr, IfOk};
+ghost use Rattle.std.specs.Prelude.{◌≤◌, ◌≡◌, ◌≢◌, ℕ, ◌<◌, ◌+◌, ◌^◌, [], false, length, OnErr, IfOk};
 ghost use Rattle.genie_base.specs.Causes.{HasCause};
 ghost use Rattle.genie_base.specs.Transfers.{class_of, is_strong, is_emulated};
 ghost use Rattle.genie_frame.specs.FrameTable.{counts_at};
@@ -55,6 +55,8 @@ pub(crate) fn lend_strong<S: Store>(
     ensures own { IfOk result (λ plan. AreOwnFrames memory.old memory.new range.now.object.0 (first_page memory.old.frames.page range.now) (output_loans plan.loans.items)) }
     ensures failed { OnErr result (IsTakenBack (is_of_range memory.old.frames.page range.now) memory.old memory.new (S.view store.old) (S.view store.new)) }
     ensures rises { MetersRise (2 ^ 20) memory.old.frames memory.new.frames }
+    ensures landed { memory.new.frames.landed ≡ memory.old.frames.landed }
+    ensures gets { memory.new.frames.meters.gets ≤ memory.old.frames.meters.gets + pages_of memory.old.frames.page range.now }
     ensures copies { CopiesAtMost (sends_work memory.old range.now.object.0 (first_page memory.old.frames.page range.now) (pages_of memory.old.frames.page range.now)) memory.old memory.new }
     ensures shut { writable ≡ false → (i : ℕ) → (entry_at memory.new.objects range.now.object.0 i).writable ≡ false }
 {
@@ -90,6 +92,8 @@ fn lend_weak<S: Store>(
     ensures lent { IfOk result (λ plan. HasLent kind.Weak 0 (is_of_range memory.old.frames.page range.now) (output_loans plan.loans.items) memory.old memory.new (S.view store.old) (S.view store.new)) }
     ensures failed { OnErr result (IsTakenBack (is_of_range memory.old.frames.page range.now) memory.old memory.new (S.view store.old) (S.view store.new)) }
     ensures rises { MetersRise (2 ^ 20) memory.old.frames memory.new.frames }
+    ensures landed { memory.new.frames.landed ≡ memory.old.frames.landed }
+    ensures gets { memory.new.frames.meters.gets ≤ memory.old.frames.meters.gets + pages_of memory.old.frames.page range.now }
     ensures copies { CopiesAtMost (writes_work memory.old range.now.object.0 (first_page memory.old.frames.page range.now) (pages_of memory.old.frames.page range.now)) memory.old memory.new }
     ensures shut { writable ≡ false → (i : ℕ) → (entry_at memory.new.objects range.now.object.0 i).writable ≡ false }
 {
@@ -132,6 +136,8 @@ pub(crate) fn share<S: Store>(
     ensures failed { OnErr result (IsMoved kernel.old kernel.new (S.view store.old) (S.view store.new)) }
     ensures cause { HasCause (S.view store.old).faults (S.view store.new).faults result }
     ensures rises { MetersRise (2 ^ 20) kernel.old.memory.frames kernel.new.memory.frames }
+    ensures landed { kernel.new.memory.frames.landed ≡ kernel.old.memory.frames.landed }
+    ensures gets { kernel.new.memory.frames.meters.gets ≤ kernel.old.memory.frames.meters.gets + pages_of kernel.old.memory.frames.page range.now }
     ensures copies { CopiesAtMost (writes_work kernel.old.memory range.now.object.0 (first_page kernel.old.memory.frames.page range.now) (pages_of kernel.old.memory.frames.page range.now)) kernel.old.memory kernel.new.memory }
 {
     output_laws();

@@ -12,6 +12,7 @@ ghost use Rattle.genie_kernel.specs.Rising.{MetersRise};
 ghost use Rattle.genie_kernel.specs.Steps.{StepsTold, StoreCause};
 ghost use Rattle.genie_kernel.specs.View.{view, outline};
 ghost use Rattle.genie_copying.specs.Bounds.{KeepsToBound};
+ghost use Rattle.genie_copying.specs.Getting.{pages_most};
 ghost use Rattle.genie_outputs.specs.Lending.{LendsFrames};
 
 use crate::call::is_plain;
@@ -65,6 +66,10 @@ pub fn out<S: Store>(
     // for those that a device reads or writes in place.
     ensures lends { LendsFrames kernel.old kernel.new (record { pid = pid; sem = sem; dev = dev; port = port; flow = flow; addr = addr; len = len }) result }
     ensures rises { MetersRise (2 ^ 36) kernel.old.memory.frames kernel.new.memory.frames }
+
+    // No byte of a device lands by it, and no more pages come from the store than it reaches.
+    ensures landed { kernel.new.memory.frames.landed ≡ kernel.old.memory.frames.landed }
+    ensures gets { kernel.new.memory.frames.meters.gets ≤ kernel.old.memory.frames.meters.gets + pages_most kernel.old (event.Output pid sem dev port flow addr len) }
 {
     match sem.class() {
         Class::Copy => {

@@ -1,5 +1,6 @@
 //! Outputs whose bytes are copied at once.
 ghost use Rattle.std.specs.Prelude.{ℕ, ◌+◌, ◌≤◌, ◌≡◌, ◌<◌, ◌-◌, ◌^◌, None, true};
+ghost use Rattle.genie_base.specs.Counts.{span};
 ghost use Rattle.genie_base.specs.Events.{mark_of};
 ghost use Rattle.genie_base.specs.Transfers.{class_of};
 ghost use Rattle.genie_base.specs.declared.event.Event.TheVariants as event;
@@ -15,6 +16,7 @@ ghost use Rattle.genie_kernel.specs.Rising.{MetersRise};
 ghost use Rattle.genie_kernel.specs.Steps.{StepsTold, StoreCause};
 ghost use Rattle.genie_kernel.specs.View.{view, outline};
 ghost use Rattle.genie_copying.specs.Bounds.{KeepsToBound};
+ghost use Rattle.genie_copying.specs.Getting.{pages_most};
 ghost use Rattle.genie_outputs.specs.Answering.{IsReady, IsAnswered, KeepsToRow};
 ghost use Rattle.genie_outputs.specs.Calls.{is_plain};
 ghost use Rattle.genie_outputs.specs.Lending.{LendsCopies};
@@ -45,6 +47,8 @@ fn begin_copied<S: Store>(
     ensures copies { KeepsToRow kernel.old call.now range.now kernel.new result }
     ensures lends { (n : ℕ) → result ≡ reply.Id n → LendsCopies kernel.old kernel.new }
     ensures rises { MetersRise (2 ^ 33) kernel.old.memory.frames kernel.new.memory.frames }
+    ensures landed { kernel.new.memory.frames.landed ≡ kernel.old.memory.frames.landed }
+    ensures gets { kernel.new.memory.frames.meters.gets ≤ kernel.old.memory.frames.meters.gets + span kernel.old.memory.frames.page range.now.off range.now.len }
 {
     output_laws();
     let id = kernel.next;
@@ -92,6 +96,8 @@ pub fn out_copied<S: Store>(
     ensures copying { KeepsToBound kernel.old (event.Output pid sem dev port flow addr len) kernel.new result }
     ensures lends { (n : ℕ) → result ≡ reply.Id n → LendsCopies kernel.old kernel.new }
     ensures rises { MetersRise (2 ^ 36) kernel.old.memory.frames kernel.new.memory.frames }
+    ensures landed { kernel.new.memory.frames.landed ≡ kernel.old.memory.frames.landed }
+    ensures gets { kernel.new.memory.frames.meters.gets ≤ kernel.old.memory.frames.meters.gets + pages_most kernel.old (event.Output pid sem dev port flow addr len) }
 {
     output_laws();
     let call = Call {

@@ -1,5 +1,6 @@
 //! Outputs whose buffer is moved out.
 ghost use Rattle.std.specs.Prelude.{◌+◌, ◌≤◌, ◌≡◌, ◌<◌, ◌-◌, ◌^◌, None};
+ghost use Rattle.genie_base.specs.Counts.{span};
 ghost use Rattle.genie_base.specs.Events.{mark_of};
 ghost use Rattle.genie_base.specs.Transfers.{class_of};
 ghost use Rattle.genie_base.specs.declared.event.Event.TheVariants as event;
@@ -14,6 +15,7 @@ ghost use Rattle.genie_kernel.specs.Rising.{MetersRise};
 ghost use Rattle.genie_kernel.specs.Steps.{StepsTold, StoreCause};
 ghost use Rattle.genie_kernel.specs.View.{view, outline};
 ghost use Rattle.genie_copying.specs.Bounds.{KeepsToBound};
+ghost use Rattle.genie_copying.specs.Getting.{pages_most};
 ghost use Rattle.genie_outputs.specs.Answering.{IsReady, IsAnswered, KeepsToRow};
 
 use crate::begin::add_output;
@@ -41,6 +43,8 @@ fn begin_moved_out<S: Store>(
     ensures answered { IsAnswered kernel.old call.now kernel.new (S.view store.old) (S.view store.new) result }
     ensures copies { KeepsToRow kernel.old call.now range.now kernel.new result }
     ensures rises { MetersRise (2 ^ 33) kernel.old.memory.frames kernel.new.memory.frames }
+    ensures landed { kernel.new.memory.frames.landed ≡ kernel.old.memory.frames.landed }
+    ensures gets { kernel.new.memory.frames.meters.gets ≤ kernel.old.memory.frames.meters.gets + span kernel.old.memory.frames.page range.now.off range.now.len }
 {
     output_laws();
     moving_laws();
@@ -89,6 +93,8 @@ pub fn out_moved_out<S: Store>(
     ensures cause { StoreCause (mark_of result) (S.view store.old).faults (S.view store.new).faults }
     ensures copying { KeepsToBound kernel.old (event.Output pid sem dev port flow addr len) kernel.new result }
     ensures rises { MetersRise (2 ^ 36) kernel.old.memory.frames kernel.new.memory.frames }
+    ensures landed { kernel.new.memory.frames.landed ≡ kernel.old.memory.frames.landed }
+    ensures gets { kernel.new.memory.frames.meters.gets ≤ kernel.old.memory.frames.meters.gets + pages_most kernel.old (event.Output pid sem dev port flow addr len) }
 {
     output_laws();
     let call = Call {

@@ -1,3 +1,4 @@
+use Rattle.genie_access.proofs.Getting.{got_one, got_two}
 use Rattle.std.proofs.Common.{arith, ◌/◌, ◌+◌, ◌^◌}
 use Rattle.genie_object.specs.Costs.{is_untouched}
 use Rattle.genie_object.specs.Lemmas.Works.{page_most}
@@ -61,3 +62,15 @@ returns-in-Ok-read_page-clause-rises g c = rises_twice (2 ^ 14) (2 ^ 14) (2 ^ 15
 
 pub returns-in-Err-read_page-clause-rises : goal.returns-in-Err-read_page-clause-rises
 returns-in-Err-read_page-clause-rises g c = rises_twice (2 ^ 14) (2 ^ 14) (2 ^ 15) c.args.memory.now.frames c.read_page.new.memory.frames c.read_page-2.new.memory.frames (omega arith) (rises_page _ _ c.args.memory.now.frames c.read_page.new.memory.frames c.in-Ok.ensures.meters c.in-Ok.ensures.moves.landed (let most = most_work (is_untouched c.args.memory.now c.args.object.0 (c.args.off / c.page-page.result)) c.args.memory.now.frames.page (page_most c.args.memory.now.frames.page c.requires.sound.shaped.size) in omega (arith, most, c.requires.buffer, c.min-first.ensures)) (gets_one _)) (rises_page _ _ c.read_page.new.memory.frames c.read_page-2.new.memory.frames c.in-Err-read_page.ensures.meters c.in-Err-read_page.ensures.moves.landed (let most = most_work (is_untouched c.read_page.new.memory c.args.object.0 (c.args.off / c.page-page.result + 1)) c.read_page.new.memory.frames.page (page_most c.read_page.new.memory.frames.page c.in-Ok.ensures.moves.sound.shaped.size) in omega (arith, most, c.requires.buffer)) (gets_one _))
+
+pub returns-in-Err-clause-gets : goal.returns-in-Err-clause-gets
+returns-in-Err-clause-gets g c = got_one c.args.memory.now.frames.page c.args.off c.args.n _ _ c.args.memory.now.frames.meters c.read_page.new.memory.frames.meters c.requires.some c.in-Err.ensures.meters (gets_one _)
+
+pub returns-then-first-n-clause-gets : goal.returns-then-first-n-clause-gets
+returns-then-first-n-clause-gets g c = got_one c.args.memory.now.frames.page c.args.off c.args.n _ _ c.args.memory.now.frames.meters c.read_page.new.memory.frames.meters c.requires.some c.in-Ok.ensures.meters (gets_one _)
+
+pub returns-in-Ok-read_page-clause-gets : goal.returns-in-Ok-read_page-clause-gets
+returns-in-Ok-read_page-clause-gets g c = got_two c.page-page.result c.args.memory.now.frames.page c.args.off c.args.n _ _ _ _ c.args.memory.now.frames.meters c.read_page.new.memory.frames.meters c.read_page-2.new.memory.frames.meters c.page-page.ensures.size (omega (arith, c.requires.some, c.requires.most, c.page-page.ensures.size)) (omega (arith, c.min-first.ensures, c.if-first-n.false)) c.in-Ok.ensures.meters (gets_one _) c.in-Ok-read_page.ensures.meters (gets_one _)
+
+pub returns-in-Err-read_page-clause-gets : goal.returns-in-Err-read_page-clause-gets
+returns-in-Err-read_page-clause-gets g c = got_two c.page-page.result c.args.memory.now.frames.page c.args.off c.args.n _ _ _ _ c.args.memory.now.frames.meters c.read_page.new.memory.frames.meters c.read_page-2.new.memory.frames.meters c.page-page.ensures.size (omega (arith, c.requires.some, c.requires.most, c.page-page.ensures.size)) (omega (arith, c.min-first.ensures, c.if-first-n.false)) c.in-Ok.ensures.meters (gets_one _) c.in-Err-read_page.ensures.meters (gets_one _)

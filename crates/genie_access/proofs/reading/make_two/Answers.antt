@@ -22,3 +22,9 @@ returns-in-Ok-clause-rises g c = rises_moved 0 0 8192 0 (2 ^ 13) c.args.kernel.n
 
 pub returns-in-Err-clause-rises : goal.returns-in-Err-clause-rises
 returns-in-Err-clause-rises g c = rises_moved 0 0 8192 0 (2 ^ 13) c.args.kernel.now.memory.frames c.make_room.new.memory.frames c.make_room.ensures.meters c.make_room.ensures.room.landed (omega arith)
+
+pub returns-in-Ok-clause-gets : goal.returns-in-Ok-clause-gets
+returns-in-Ok-clause-gets g c = omega (arith, c.make_room.ensures.meters.gets, c.make_room.ensures.meters.most_gets)
+
+pub returns-in-Err-clause-gets : goal.returns-in-Err-clause-gets
+returns-in-Err-clause-gets g c = omega (arith, c.make_room.ensures.meters.gets, c.make_room.ensures.meters.most_gets)

@@ -1,3 +1,4 @@
+use Rattle.genie_access.proofs.Getting.{got_reached}
 use Rattle.std.proofs.Common.{arith, ◌^◌, subst, List, ℕ}
 use Rattle.genie_kernel.specs.Lemmas.Keeping.{hidden_kept}
 use Rattle.genie_access.specs.Reading.{ReadsObject}
@@ -32,3 +33,12 @@ returns-in-Ok-read_range-clause-rises g c = rises_twice (2 ^ 13) (2 ^ 15) (2 ^ 3
 
 pub returns-in-Err-read_range-clause-rises : goal.returns-in-Err-read_range-clause-rises
 returns-in-Err-read_range-clause-rises g c = rises_twice (2 ^ 13) (2 ^ 15) (2 ^ 36) c.args.kernel.now.memory.frames c.make_two.new.kernel.memory.frames c.read_range.new.memory.frames (omega arith) c.make_two.ensures.rises c.read_range.ensures.rises
+
+pub returns-in-Err-clause-gets : goal.returns-in-Err-clause-gets
+returns-in-Err-clause-gets g c = omega (arith, c.make_two.ensures.gets)
+
+pub returns-in-Ok-read_range-clause-gets : goal.returns-in-Ok-read_range-clause-gets
+returns-in-Ok-read_range-clause-gets g c = got_reached c.args.kernel.now c.make_two.new.kernel.memory c.read_range.new.memory c.args.pid c.args.addr c.args.len c.find_place-off.result.0 c.find_place-off.result.1 c.requires.good c.find_place-off.ensures c.make_two.ensures.costs.page c.make_two.ensures.gets c.read_range.ensures.gets
+
+pub returns-in-Err-read_range-clause-gets : goal.returns-in-Err-read_range-clause-gets
+returns-in-Err-read_range-clause-gets g c = got_reached c.args.kernel.now c.make_two.new.kernel.memory c.read_range.new.memory c.args.pid c.args.addr c.args.len c.find_place-off.result.0 c.find_place-off.result.1 c.requires.good c.find_place-off.ensures c.make_two.ensures.costs.page c.make_two.ensures.gets c.read_range.ensures.gets

@@ -1,3 +1,5 @@
+use Rattle.genie_frame.specs.FrameTable.{FrameTable}
+use Rattle.genie_access.proofs.Getting.{got_one, got_two}
 use Rattle.std.proofs.Common.{arith, refl, ap, ◌≡◌, ◌∙◌, ◌/◌, ◌+◌, ◌-◌, ◌^◌, length, length-drop, drop, take}
 use Rattle.genie_object.specs.Lemmas.Works.{below_more}
 use Rattle.genie_access.proofs.Joined.{gets_one, moves_twice}
@@ -81,3 +83,22 @@ returns-clause-rises g c =
     let second = rises_put c.write-2.new.self c.write-3.new.self _ _ _ _ c.write-3.ensures (omega (arith, rest, c.requires.short)) in
     let stored = rises_twice (2 ^ 12) (2 ^ 12) (2 ^ 13) c.resolve_write-2.new.memory.frames c.write-2.new.self c.write-3.new.self (omega arith) first second in
     rises_twice (2 ^ 15) (2 ^ 13) (2 ^ 16) c.args.memory.now.frames c.resolve_write-2.new.memory.frames c.write-3.new.self (omega arith) ready stored
+
+pub returns-in-Err-clause-gets : goal.returns-in-Err-clause-gets
+returns-in-Err-clause-gets g c = got_one c.args.memory.now.frames.page c.args.off (length c.args.bytes.now) _ _ c.args.memory.now.frames.meters c.resolve_write.new.memory.frames.meters c.requires.some c.in-Err.ensures.meters (gets_one _)
+
+pub returns-then-first-n-clause-gets : goal.returns-then-first-n-clause-gets
+returns-then-first-n-clause-gets g c =
+    let most = got_one c.args.memory.now.frames.page c.args.off (length c.args.bytes.now) _ _ c.args.memory.now.frames.meters c.resolve_write.new.memory.frames.meters c.requires.some c.in-Ok.ensures.meters (gets_one _) in
+    let same : c.write.new.self.meters.gets ≡ c.resolve_write.new.memory.frames.meters.gets = ap (λ (t : FrameTable). t.meters.gets) c.write.ensures in
+    omega (arith, most, same)
+
+pub returns-in-Err-resolve_write-clause-gets : goal.returns-in-Err-resolve_write-clause-gets
+returns-in-Err-resolve_write-clause-gets g c = got_two c.page-page.result c.args.memory.now.frames.page c.args.off (length c.args.bytes.now) _ _ _ _ c.args.memory.now.frames.meters c.resolve_write.new.memory.frames.meters c.resolve_write-2.new.memory.frames.meters c.page-page.ensures.size (omega (arith, c.requires.some, c.requires.most, c.page-page.ensures.size)) (omega (arith, c.min-first.ensures, c.if-first-n.false)) c.in-Ok.ensures.meters (gets_one _) c.in-Err-resolve_write.ensures.meters (gets_one _)
+
+pub returns-clause-gets : goal.returns-clause-gets
+returns-clause-gets g c =
+    let most = got_two c.page-page.result c.args.memory.now.frames.page c.args.off (length c.args.bytes.now) _ _ _ _ c.args.memory.now.frames.meters c.resolve_write.new.memory.frames.meters c.resolve_write-2.new.memory.frames.meters c.page-page.ensures.size (omega (arith, c.requires.some, c.requires.most, c.page-page.ensures.size)) (omega (arith, c.min-first.ensures, c.if-first-n.false)) c.in-Ok.ensures.meters (gets_one _) c.in-Ok-resolve_write.ensures.meters (gets_one _) in
+    let same : c.write-2.new.self.meters.gets ≡ c.resolve_write-2.new.memory.frames.meters.gets = ap (λ (t : FrameTable). t.meters.gets) c.write-2.ensures in
+    let last : c.write-3.new.self.meters.gets ≡ c.write-2.new.self.meters.gets = ap (λ (t : FrameTable). t.meters.gets) c.write-3.ensures in
+    omega (arith, most, same, last)

@@ -1,3 +1,4 @@
+use Rattle.genie_access.proofs.Getting.{got_reached}
 use Rattle.std.proofs.Common.{arith, ◌^◌, refl, length}
 use Rattle.genie_access.proofs.Led.{led_inside}
 use Rattle.genie_access.proofs.Wrote.{wrote_at, wrote_seen}
@@ -28,3 +29,12 @@ returns-in-Ok-write_range-clause-rises g c = rises_twice (2 ^ 13) (2 ^ 16) (2 ^ 
 
 pub returns-in-Err-write_range-clause-rises : goal.returns-in-Err-write_range-clause-rises
 returns-in-Err-write_range-clause-rises g c = rises_twice (2 ^ 13) (2 ^ 16) (2 ^ 36) c.args.kernel.now.memory.frames c.make_two.new.kernel.memory.frames c.write_range.new.memory.frames (omega arith) c.make_two.ensures.rises c.write_range.ensures.rises
+
+pub returns-in-Err-clause-gets : goal.returns-in-Err-clause-gets
+returns-in-Err-clause-gets g c = omega (arith, c.make_two.ensures.gets)
+
+pub returns-in-Ok-write_range-clause-gets : goal.returns-in-Ok-write_range-clause-gets
+returns-in-Ok-write_range-clause-gets g c = got_reached c.args.kernel.now c.make_two.new.kernel.memory c.write_range.new.memory c.args.pid c.args.addr (length c.args.bytes.now) c.find_place-off.result.0 c.find_place-off.result.1 c.requires.good c.find_place-off.ensures c.make_two.ensures.costs.page c.make_two.ensures.gets c.write_range.ensures.gets
+
+pub returns-in-Err-write_range-clause-gets : goal.returns-in-Err-write_range-clause-gets
+returns-in-Err-write_range-clause-gets g c = got_reached c.args.kernel.now c.make_two.new.kernel.memory c.write_range.new.memory c.args.pid c.args.addr (length c.args.bytes.now) c.find_place-off.result.0 c.find_place-off.result.1 c.requires.good c.find_place-off.ensures c.make_two.ensures.costs.page c.make_two.ensures.gets c.write_range.ensures.gets

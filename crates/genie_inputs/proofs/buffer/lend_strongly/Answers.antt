@@ -1,3 +1,5 @@
+use Rattle.std.proofs.Common.{◌∙◌}
+use Rattle.genie_inputs.proofs.Getting.{got_buffer}
 use Rattle.std.proofs.Common.{arith, ◌^◌}
 use Rattle.genie_kernel.specs.Lemmas.Rising.{rises_most, rises_twice}
 use Rattle.genie_inputs.proofs.Rising.{lent_most, rises_buffer}
@@ -12,3 +14,6 @@ returns-in-Err-clause-rises g c = rises_most (2 ^ 13) (2 ^ 20) c.args.kernel.now
 
 pub returns-in-Ok-clause-copying : goal.returns-in-Ok-clause-copying
 returns-in-Ok-clause-copying g c = moves_on c.args.kernel.now.memory c.make_free.new.kernel.memory c.lend_buffer.new.memory c.make_free.ensures.copying (moves_buffer c.args.id.0 c.args.at c.args.len _ c.make_free.new.kernel.memory c.lend_buffer.new.memory c.lend_buffer.result c.lend_buffer.ensures)
+
+pub returns-in-Ok-clause-gets : goal.returns-in-Ok-clause-gets
+returns-in-Ok-clause-gets g c = got_buffer c.args.id.0 c.args.at c.args.len _ c.make_free.new.kernel.memory c.lend_buffer.new.memory c.lend_buffer.result c.lend_buffer.ensures ∙ c.make_free.ensures.gets

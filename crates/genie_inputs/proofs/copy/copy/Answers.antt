@@ -37,3 +37,6 @@ returns-in-Err-clause-rises g c = rises_between (2 ^ 20) c.args.kernel.now.memor
 
 pub returns-in-Ok-clause-copying : goal.returns-in-Ok-clause-copying
 returns-in-Ok-clause-copying g c = moves_on c.args.kernel.now.memory c.lend_strongly.new.kernel.memory c.post.new.kernel.memory c.lend_strongly.ensures.copying (moves_none c.lend_strongly.new.kernel.memory c.post.new.kernel.memory (ap (λ (z : Kernel). z.memory.frames.meters) c.post.ensures))
+
+pub returns-in-Ok-clause-gets : goal.returns-in-Ok-clause-gets
+returns-in-Ok-clause-gets g c = ap (λ (z : Kernel). z.memory.frames.meters.gets) c.post.ensures ∙ c.lend_strongly.ensures.gets

@@ -1,3 +1,4 @@
+use Rattle.genie_inputs.proofs.Getting.{got_before, got_left, got_weakly}
 use Rattle.std.proofs.Common.{◌≡◌, ◌∙◌, sym, ap, refl, not, subst, true, arith, ◌^◌}
 use Rattle.std.specs.Prelude.{None, is_some}
 use Rattle.genie_base.specs.declared.numbers.RegionId.{RegionId}
@@ -84,3 +85,9 @@ returns-in-Ok-clause-copying g c = weak_keeps c.args.kernel.now c.post.new.kerne
 
 pub returns-in-Err-clause-copying : goal.returns-in-Err-clause-copying
 returns-in-Err-clause-copying g c = weak_keeps c.args.kernel.now c.remove_region.new.kernel c.args.call reply.StoreFault _ c.requires.class refl (fill_less c.args.kernel.now c.add_region-object.new.kernel c.args.call c.live_region-region.result c.requires.good (ap (λ (z : Kernel). z.config) c.add_region-object.ensures.added ∙ ap (λ (z : Kernel). z.config) c.make_room.ensures.clears.only) (ap (λ (x : Class). must_make (outline c.args.kernel.now) c.args.call.pid x c.args.call.len) (sym c.requires.class) ∙ c.requires.made)) (costs_before _ c.args.kernel.now.memory c.add_region-object.new.kernel.memory c.remove_region.new.kernel.memory (ap (λ (z : Kernel). z.memory.frames.meters) c.add_region-object.ensures.added ∙ c.make_room.ensures.clears.meters) (costs_left _ c.add_region-object.new.kernel.memory c.lend_in_place.new.kernel.memory c.remove_region.new.kernel.memory (ap (λ (z : FrameTable). z.meters) c.remove_region.ensures.object.frames) c.lend_in_place.ensures.copying))
+
+pub returns-in-Ok-clause-gets : goal.returns-in-Ok-clause-gets
+returns-in-Ok-clause-gets g c = got_weakly c.args.kernel.now c.post.new.kernel c.args.call c.add_region-object.new.kernel.config.page c.requires.class c.requires.good (ap (λ (z : Kernel). z.config.page) c.add_region-object.ensures.added ∙ ap (λ (z : Kernel). z.config.page) c.make_room.ensures.clears.only) (got_before _ c.args.kernel.now.memory.frames.meters c.add_region-object.new.kernel.memory.frames.meters c.post.new.kernel.memory.frames.meters (ap (λ (z : Kernel). z.memory.frames.meters) c.add_region-object.ensures.added ∙ c.make_room.ensures.clears.meters) (got_left _ c.add_region-object.new.kernel.memory.frames.meters c.lend_in_place.new.kernel.memory.frames.meters c.post.new.kernel.memory.frames.meters (ap (λ (z : Kernel). z.memory.frames.meters) c.post.ensures ∙ ap (λ (z : Kernel). z.memory.frames.meters) c.set_in.ensures) c.lend_in_place.ensures.gets))
+
+pub returns-in-Err-clause-gets : goal.returns-in-Err-clause-gets
+returns-in-Err-clause-gets g c = got_weakly c.args.kernel.now c.remove_region.new.kernel c.args.call c.add_region-object.new.kernel.config.page c.requires.class c.requires.good (ap (λ (z : Kernel). z.config.page) c.add_region-object.ensures.added ∙ ap (λ (z : Kernel). z.config.page) c.make_room.ensures.clears.only) (got_before _ c.args.kernel.now.memory.frames.meters c.add_region-object.new.kernel.memory.frames.meters c.remove_region.new.kernel.memory.frames.meters (ap (λ (z : Kernel). z.memory.frames.meters) c.add_region-object.ensures.added ∙ c.make_room.ensures.clears.meters) (got_left _ c.add_region-object.new.kernel.memory.frames.meters c.lend_in_place.new.kernel.memory.frames.meters c.remove_region.new.kernel.memory.frames.meters (ap (λ (z : FrameTable). z.meters) c.remove_region.ensures.object.frames) c.lend_in_place.ensures.gets))

@@ -1,3 +1,6 @@
+use Rattle.std.proofs.Common.{◌∙◌}
+use Rattle.std.proofs.Common.{ap}
+use Rattle.genie_frame.specs.declared.frame.Meters.{Meters}
 use Rattle.std.proofs.Common.{arith, ◌^◌}
 use Rattle.std.specs.Prelude.{None}
 use Rattle.genie_kernel.specs.Lemmas.Rising.{rises_same, rises_twice}
@@ -34,3 +37,6 @@ returns-clause-rises g c = rises_twice 0 (2 ^ 20) (2 ^ 20) c.args.kernel.now.mem
 
 pub returns-clause-copying : goal.returns-clause-copying
 returns-clause-copying g c = moves_on c.args.kernel.now.memory c.make_room.new.kernel.memory c.lend_strongly.new.kernel.memory (moves_none c.args.kernel.now.memory c.make_room.new.kernel.memory c.make_room.ensures.clears.meters) c.lend_strongly.ensures.copying
+
+pub returns-clause-gets : goal.returns-clause-gets
+returns-clause-gets g c = c.lend_strongly.ensures.gets ∙ ap (λ (w : Meters). w.gets) c.make_room.ensures.clears.meters

@@ -1,3 +1,5 @@
+use Rattle.std.proofs.Common.{◌∙◌}
+use Rattle.std.proofs.Common.{ap}
 use Rattle.std.proofs.Common.{◌≡◌, ◌^◌, subst, sym}
 use Rattle.std.specs.Prelude.{None, IfOk, OnErr}
 use Rattle.genie_object.specs.Costs.{AreBelow}
@@ -49,3 +51,6 @@ returns-in-None-clause-rises g c = subst (λ (z : Kernel). MetersRise (2 ^ 20) z
 
 pub returns-in-None-clause-copying : goal.returns-in-None-clause-copying
 returns-in-None-clause-copying g c = subst (λ (z : Kernel). CopiesAtMost 0 z.memory c.lend_anew.new.kernel.memory) (c.take_hidden.ensures.unchanged c.in-None.is) c.lend_anew.ensures.copying
+
+pub returns-in-None-clause-gets : goal.returns-in-None-clause-gets
+returns-in-None-clause-gets g c = c.lend_anew.ensures.gets ∙ ap (λ (z : Kernel). z.memory.frames.meters.gets) (c.take_hidden.ensures.unchanged c.in-None.is)

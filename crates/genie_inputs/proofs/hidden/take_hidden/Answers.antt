@@ -1,3 +1,4 @@
+use Rattle.genie_inputs.proofs.Getting.{got_object}
 use Rattle.std.proofs.Common.{◌∙◌, ap, sym}
 use Rattle.std.specs.Prelude.{List, position}
 use Rattle.genie_hiding.specs.declared.hidden.Hidden.{Hidden}
@@ -37,3 +38,6 @@ returns-in-Some-clause-rises c = rises_object c.args.id.0 c.args.call.len c.in-S
 
 pub returns-in-Some-clause-copying : goal.returns-in-Some-clause-copying
 returns-in-Some-clause-copying c = moves_object c.args.id.0 c.args.call.len c.in-Some.region.object.0 c.args.kernel.now.memory c.lend_object.new.memory (Inward c.lend_object.result) c.lend_object.ensures
+
+pub returns-in-Some-clause-gets : goal.returns-in-Some-clause-gets
+returns-in-Some-clause-gets c = got_object c.args.id.0 c.args.call.len c.in-Some.region.object.0 c.args.kernel.now.memory c.lend_object.new.memory (Inward c.lend_object.result) c.lend_object.ensures

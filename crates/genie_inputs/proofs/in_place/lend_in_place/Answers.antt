@@ -1,3 +1,4 @@
+use Rattle.genie_inputs.proofs.Getting.{got_left, got_lent}
 use Rattle.std.proofs.Common.{refl, arith, ◌^◌}
 use Rattle.genie_inputs.proofs.Lending.{can_wire, lend_failed, lends_pages, moved_within, object_there}
 use Rattle.genie_kernel.specs.Lemmas.Rising.{rises_most, rises_twice}
@@ -39,3 +40,12 @@ returns-in-Err-lent-clause-copying g c = lend_costs c.args.kernel.now c.make_fre
 
 pub returns-in-Ok-lent-clause-copying : goal.returns-in-Ok-lent-clause-copying
 returns-in-Ok-lent-clause-copying g c = costs_left _ c.args.kernel.now.memory c.in_place-lent.new.memory c.wire_plan.new.memory c.wire_plan.ensures.wired.only.meters (lend_costs c.args.kernel.now c.make_free.new.kernel c.in_place-lent.new.memory c.args.region c.args.off c.args.len _ _ _ (g.S.Store.view c.args.store.now) (g.S.Store.view c.make_free.new.store) c.requires.good c.requires.owned c.make_free.ensures.costs c.make_free.ensures.copying refl c.in_place-lent.ensures.spends)
+
+pub returns-in-Err-clause-gets : goal.returns-in-Err-clause-gets
+returns-in-Err-clause-gets g c = omega (arith, c.make_free.ensures.gets)
+
+pub returns-in-Err-lent-clause-gets : goal.returns-in-Err-lent-clause-gets
+returns-in-Err-lent-clause-gets g c = got_lent c.args.kernel.now c.make_free.new.kernel c.in_place-lent.new.memory c.args.off c.args.len _ _ _ c.requires.good c.make_free.ensures.costs.page c.make_free.ensures.gets refl c.in_place-lent.ensures.spends
+
+pub returns-in-Ok-lent-clause-gets : goal.returns-in-Ok-lent-clause-gets
+returns-in-Ok-lent-clause-gets g c = got_left _ c.args.kernel.now.memory.frames.meters c.in_place-lent.new.memory.frames.meters c.wire_plan.new.memory.frames.meters c.wire_plan.ensures.wired.only.meters (got_lent c.args.kernel.now c.make_free.new.kernel c.in_place-lent.new.memory c.args.off c.args.len _ _ _ c.requires.good c.make_free.ensures.costs.page c.make_free.ensures.gets refl c.in_place-lent.ensures.spends)

@@ -1,3 +1,4 @@
+use Rattle.std.proofs.Common.{arith}
 use Rattle.std.proofs.Common.{◌∙◌, sym}
 use Rattle.genie_inputs.proofs.Costing.{none_keeps}
 use Rattle.genie_inputs.proofs.HiddenAgain.{weak_reuses}
@@ -10,3 +11,6 @@ returns-in-WeakMove-clause-reuses g c = weak_reuses c.args.kernel.now c.input_we
 
 pub returns-in-Move-clause-copying : goal.returns-in-Move-clause-copying
 returns-in-Move-clause-copying g c = none_keeps c.args.kernel.now c.hold.new.kernel (input_event c.args.call None) c.hold.result c.hold.ensures.copying
+
+pub returns-in-Move-clause-gets : goal.returns-in-Move-clause-gets
+returns-in-Move-clause-gets g c = omega (arith, c.hold.ensures.gets)

@@ -1,3 +1,4 @@
+use Rattle.genie_inputs.proofs.Getting.{got_left, got_weakly}
 use Rattle.std.proofs.Common.{◌≡◌, ◌∙◌, ℕ, List, [], true, get_or, sym, ap, subst, arith, refl, ◌^◌}
 use Rattle.std.specs.Prelude.{None, is_some, not}
 use Rattle.genie_hiding.specs.Queues.{is_in}
@@ -61,3 +62,9 @@ returns-in-Ok-clause-copying g c = weak_keeps c.args.kernel.now c.post.new.kerne
 
 pub returns-in-Err-clause-copying : goal.returns-in-Err-clause-copying
 returns-in-Err-clause-copying g c = weak_keeps c.args.kernel.now c.lend_in_place.new.kernel c.args.call reply.StoreFault _ c.requires.class refl (refill_less c.args.kernel.now c.args.call c.args.region c.requires.good (may_input c.args.kernel.now c.args.call None c.requires.good c.requires.accepted).alive c.requires.reusable) c.lend_in_place.ensures.copying
+
+pub returns-in-Ok-clause-gets : goal.returns-in-Ok-clause-gets
+returns-in-Ok-clause-gets g c = got_weakly c.args.kernel.now c.post.new.kernel c.args.call c.args.kernel.now.config.page c.requires.class c.requires.good refl (got_left _ c.args.kernel.now.memory.frames.meters c.lend_in_place.new.kernel.memory.frames.meters c.post.new.kernel.memory.frames.meters (ap (λ (z : Kernel). z.memory.frames.meters) c.post.ensures ∙ ap (λ (z : Kernel). z.memory.frames.meters) c.move_in.ensures) c.lend_in_place.ensures.gets)
+
+pub returns-in-Err-clause-gets : goal.returns-in-Err-clause-gets
+returns-in-Err-clause-gets g c = got_weakly c.args.kernel.now c.lend_in_place.new.kernel c.args.call c.args.kernel.now.config.page c.requires.class c.requires.good refl c.lend_in_place.ensures.gets

@@ -27,3 +27,9 @@ returns-in-Ok-clause-costs g c = room_no_dearer (objects_of c.args.kernel.now.hi
 
 pub returns-in-Err-clause-costs : goal.returns-in-Err-clause-costs
 returns-in-Err-clause-costs g c = room_no_dearer (objects_of c.args.kernel.now.hidden) c.args.kernel.now.memory c.make_room.new.memory (g.S.Store.view c.args.store.now) (g.S.Store.view c.make_room.new.store) c.requires.good.sound c.make_room.ensures.room
+
+pub returns-in-Ok-clause-gets : goal.returns-in-Ok-clause-gets
+returns-in-Ok-clause-gets g c = omega (arith, c.make_room.ensures.meters.gets, c.make_room.ensures.meters.most_gets)
+
+pub returns-in-Err-clause-gets : goal.returns-in-Err-clause-gets
+returns-in-Err-clause-gets g c = omega (arith, c.make_room.ensures.meters.gets, c.make_room.ensures.meters.most_gets)

@@ -1,3 +1,4 @@
+use Rattle.genie_inputs.proofs.Getting.{got_left, got_shared}
 use Rattle.std.proofs.Common.{◌∙◌, ap, arith, refl, ◌^◌}
 use Rattle.std.specs.Prelude.{Some, not}
 use Rattle.genie_inputs.specs.Posting.{with_input}
@@ -45,3 +46,9 @@ returns-in-Ok-clause-copying g c = share_keeps c.args.kernel.now c.post.new.kern
 
 pub returns-in-Err-clause-copying : goal.returns-in-Err-clause-copying
 returns-in-Err-clause-copying g c = share_keeps c.args.kernel.now c.lend_in_place.new.kernel c.args.call c.args.addr c.find_target-off.result.0 c.find_target-off.result.1 reply.StoreFault c.requires.class refl c.find_target-off.ensures c.lend_in_place.ensures.copying
+
+pub returns-in-Ok-clause-gets : goal.returns-in-Ok-clause-gets
+returns-in-Ok-clause-gets g c = got_shared c.args.kernel.now c.post.new.kernel c.args.call c.args.addr c.find_target-off.result.0 c.find_target-off.result.1 c.requires.class c.find_target-off.ensures (got_left _ c.args.kernel.now.memory.frames.meters c.lend_in_place.new.kernel.memory.frames.meters c.post.new.kernel.memory.frames.meters (ap (λ (z : Kernel). z.memory.frames.meters) c.post.ensures) c.lend_in_place.ensures.gets)
+
+pub returns-in-Err-clause-gets : goal.returns-in-Err-clause-gets
+returns-in-Err-clause-gets g c = got_shared c.args.kernel.now c.lend_in_place.new.kernel c.args.call c.args.addr c.find_target-off.result.0 c.find_target-off.result.1 c.requires.class c.find_target-off.ensures c.lend_in_place.ensures.gets

@@ -1,3 +1,4 @@
+use Rattle.genie_outputs.proofs.Getting.{got_reached}
 use Rattle.std.proofs.Common.{arith, ◌^◌}
 use Rattle.genie_outputs.proofs.Rows.{failed_keeps, out_keeps}
 use Rattle.genie_outputs.proofs.Answered.{answered_since, failed_answered, moved_config, moved_numbers}
@@ -36,3 +37,9 @@ returns-in-Ok-clause-rises g c = rises_twice (2 ^ 13) (2 ^ 33) (2 ^ 36) c.args.k
 
 pub returns-in-Err-clause-rises : goal.returns-in-Err-clause-rises
 returns-in-Err-clause-rises g c = rises_most (2 ^ 13) (2 ^ 36) c.args.kernel.now.memory.frames c.make_ready.new.kernel.memory.frames (omega arith) c.make_ready.ensures.rises
+
+pub returns-in-Ok-clause-gets : goal.returns-in-Ok-clause-gets
+returns-in-Ok-clause-gets g c = got_reached c.args.kernel.now c.make_ready.new.kernel c.begin_hidden.new.kernel _ _ _ (g.S.Store.view c.args.store.now) (g.S.Store.view c.make_ready.new.store) c.make_ready.ensures.moved c.in-Ok.ensures.ready c.make_ready.ensures.gets c.begin_hidden.ensures.gets
+
+pub returns-in-Err-clause-gets : goal.returns-in-Err-clause-gets
+returns-in-Err-clause-gets g c = omega (arith, c.make_ready.ensures.gets)

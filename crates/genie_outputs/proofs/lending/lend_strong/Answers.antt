@@ -31,3 +31,9 @@ returns-in-Err-clause-rises g c = rises_strong c.args.memory.now c.prepare_stron
 
 pub returns-in-Ok-clause-own : goal.returns-in-Ok-clause-own
 returns-in-Ok-clause-own g c = own_narrowed c.args.memory.now c.prepare_strong.new.memory c.guard.new.objects (g.S.Store.view c.args.store.now) (g.S.Store.view c.prepare_strong.new.store) (is_of_range c.args.memory.now.frames.page c.args.range.now) c.guard.ensures.all c.args.range.now.object.0 (first_page c.args.memory.now.frames.page c.args.range.now) (output_loans c.in-Ok.plan.loans.items) c.in-Ok.ensures.own
+
+pub returns-in-Ok-clause-gets : goal.returns-in-Ok-clause-gets
+returns-in-Ok-clause-gets g c = c.prepare_strong.ensures.spends.most_gets
+
+pub returns-in-Err-clause-gets : goal.returns-in-Err-clause-gets
+returns-in-Err-clause-gets g c = c.prepare_strong.ensures.spends.most_gets

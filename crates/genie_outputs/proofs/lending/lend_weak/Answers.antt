@@ -28,3 +28,9 @@ returns-in-Ok-clause-rises g c = rises_weak c.args.memory.now c.prepare_weak.new
 
 pub returns-in-Err-clause-rises : goal.returns-in-Err-clause-rises
 returns-in-Err-clause-rises g c = rises_weak c.args.memory.now c.prepare_weak.new.memory c.args.range.now c.requires.sound c.requires.range c.in-Err.ensures.failed.landed c.prepare_weak.ensures.spends
+
+pub returns-in-Ok-clause-gets : goal.returns-in-Ok-clause-gets
+returns-in-Ok-clause-gets g c = c.prepare_weak.ensures.spends.most_gets
+
+pub returns-in-Err-clause-gets : goal.returns-in-Err-clause-gets
+returns-in-Err-clause-gets g c = c.prepare_weak.ensures.spends.most_gets

@@ -1,3 +1,4 @@
+use Rattle.genie_outputs.proofs.Getting.{got_wired}
 use Rattle.std.proofs.Common.{◌^◌}
 use Rattle.genie_outputs.proofs.Lent.{object_there}
 use Rattle.genie_outputs.proofs.Reached.{can_prepare}
@@ -30,3 +31,6 @@ returns-in-Ok-clause-copies g c = wires_move_none (is_emulated c.args.call.now.s
 
 pub returns-in-Ok-clause-rises : goal.returns-in-Ok-clause-rises
 returns-in-Ok-clause-rises g c = rises_wired (is_emulated c.args.call.now.sem) _ (2 ^ 20) c.args.kernel.now.memory.frames c.lend_weak.new.memory.frames c.wire_plan.new.frames c.wire_plan.ensures c.lend_weak.ensures.rises
+
+pub returns-in-Ok-clause-gets : goal.returns-in-Ok-clause-gets
+returns-in-Ok-clause-gets g c = got_wired (is_emulated c.args.call.now.sem) _ _ c.args.kernel.now.memory.frames.meters c.lend_weak.new.memory.frames c.wire_plan.new.frames c.wire_plan.ensures c.lend_weak.ensures.gets

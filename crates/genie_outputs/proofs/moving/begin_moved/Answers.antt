@@ -1,3 +1,4 @@
+use Rattle.genie_outputs.proofs.Getting.{got_left}
 use Rattle.std.proofs.Common.{◌≡◌, true, sym, subst, arith, ◌^◌, ◌∙◌, ap}
 use Rattle.std.specs.Prelude.{Some}
 use Rattle.genie_kernel.specs.declared.kernel.Kernel.{Kernel}
@@ -48,3 +49,9 @@ returns-in-Ok-clause-rises g c = rises_left (2 ^ 33) c.args.kernel.now.memory.fr
 
 pub returns-in-Err-clause-rises : goal.returns-in-Err-clause-rises
 returns-in-Err-clause-rises g c = rises_most (2 ^ 20) (2 ^ 33) c.args.kernel.now.memory.frames c.lend_strong.new.memory.frames (omega arith) c.lend_strong.ensures.rises
+
+pub returns-in-Ok-clause-gets : goal.returns-in-Ok-clause-gets
+returns-in-Ok-clause-gets g c = got_left _ c.args.kernel.now.memory.frames.meters c.lend_strong.new.memory.frames.meters c.remove_region.new.kernel.memory.frames.meters (ap (λ (z : FrameTable). z.meters) c.remove_region.ensures.object.frames ∙ ap (λ (z : Kernel). z.memory.frames.meters) c.add_output.ensures) c.lend_strong.ensures.gets
+
+pub returns-in-Err-clause-gets : goal.returns-in-Err-clause-gets
+returns-in-Err-clause-gets g c = c.lend_strong.ensures.gets

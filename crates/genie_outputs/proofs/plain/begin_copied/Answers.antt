@@ -1,3 +1,4 @@
+use Rattle.genie_outputs.proofs.Getting.{got_left}
 use Rattle.genie_outputs.proofs.Copied.{copied, uncopied}
 use Rattle.genie_outputs.proofs.Reached.{can_prepare, may_output}
 use Rattle.genie_kernel.specs.declared.kernel.Kernel.{Kernel}
@@ -37,3 +38,9 @@ returns-in-Ok-clause-lends g c = λ n is. copies_lent c.args.kernel.now c.prepar
 
 pub returns-in-Err-clause-lends : goal.returns-in-Err-clause-lends
 returns-in-Err-clause-lends g c = λ n is. absurd (cc)
+
+pub returns-in-Ok-clause-gets : goal.returns-in-Ok-clause-gets
+returns-in-Ok-clause-gets g c = got_left _ c.args.kernel.now.memory.frames.meters c.prepare_copy.new.memory.frames.meters c.add_output.new.kernel.memory.frames.meters (ap (λ (z : Kernel). z.memory.frames.meters) c.add_output.ensures) c.prepare_copy.ensures.spends.most_gets
+
+pub returns-in-Err-clause-gets : goal.returns-in-Err-clause-gets
+returns-in-Err-clause-gets g c = c.prepare_copy.ensures.spends.most_gets

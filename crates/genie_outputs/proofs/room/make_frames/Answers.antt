@@ -27,3 +27,9 @@ returns-in-Ok-clause-unheld g c = λ o i out. room_unheld (objects_of c.args.ker
 
 pub returns-in-Err-clause-unheld : goal.returns-in-Err-clause-unheld
 returns-in-Err-clause-unheld g c = λ o i out. room_unheld (objects_of c.args.kernel.now.hidden) c.args.kernel.now.memory c.make_room.new.memory (g.S.Store.view c.args.store.now) (g.S.Store.view c.make_room.new.store) o i c.requires.good.sound c.make_room.ensures.room out
+
+pub returns-in-Ok-clause-gets : goal.returns-in-Ok-clause-gets
+returns-in-Ok-clause-gets g c = omega (arith, c.make_room.ensures.meters.gets, c.make_room.ensures.meters.most_gets)
+
+pub returns-in-Err-clause-gets : goal.returns-in-Err-clause-gets
+returns-in-Err-clause-gets g c = omega (arith, c.make_room.ensures.meters.gets, c.make_room.ensures.meters.most_gets)

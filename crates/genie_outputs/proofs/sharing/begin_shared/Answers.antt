@@ -1,3 +1,4 @@
+use Rattle.genie_outputs.proofs.Getting.{got_left}
 use Rattle.std.proofs.Common.{ap, sym, subst, ◌∙◌, ◌<◌, length, arith, ◌^◌}
 use Rattle.genie_base.specs.Transfers.{is_strong, is_system}
 use Rattle.genie_kernel.specs.declared.kernel.Kernel.{Kernel}
@@ -32,3 +33,9 @@ returns-in-Ok-clause-rises g c = rises_left (2 ^ 33) c.args.kernel.now.memory.fr
 
 pub returns-in-Err-clause-rises : goal.returns-in-Err-clause-rises
 returns-in-Err-clause-rises g c = rises_most (2 ^ 20) (2 ^ 33) c.args.kernel.now.memory.frames c.share.new.kernel.memory.frames (omega arith) c.share.ensures.rises
+
+pub returns-in-Ok-clause-gets : goal.returns-in-Ok-clause-gets
+returns-in-Ok-clause-gets g c = got_left _ c.args.kernel.now.memory.frames.meters c.share.new.kernel.memory.frames.meters c.add_output.new.kernel.memory.frames.meters (ap (λ (z : Kernel). z.memory.frames.meters) c.add_output.ensures) c.share.ensures.gets
+
+pub returns-in-Err-clause-gets : goal.returns-in-Err-clause-gets
+returns-in-Err-clause-gets g c = c.share.ensures.gets

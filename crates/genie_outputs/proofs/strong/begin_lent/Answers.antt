@@ -1,3 +1,4 @@
+use Rattle.genie_outputs.proofs.Getting.{got_left}
 use Rattle.std.proofs.Common.{ap, arith, ◌^◌}
 use Rattle.genie_base.specs.Transfers.{is_strong, is_system}
 use Rattle.genie_outputs.proofs.Lent.{lent_out, object_there, unlent_out}
@@ -40,3 +41,9 @@ returns-in-Ok-clause-lends g c = λ n is. own_lent c.args.kernel.now c.lend_stro
 
 pub returns-in-Err-clause-lends : goal.returns-in-Err-clause-lends
 returns-in-Err-clause-lends g c = λ n is. absurd (cc)
+
+pub returns-in-Ok-clause-gets : goal.returns-in-Ok-clause-gets
+returns-in-Ok-clause-gets g c = got_left _ c.args.kernel.now.memory.frames.meters c.lend_strong.new.memory.frames.meters c.add_output.new.kernel.memory.frames.meters (ap (λ (z : Kernel). z.memory.frames.meters) c.add_output.ensures) c.lend_strong.ensures.gets
+
+pub returns-in-Err-clause-gets : goal.returns-in-Err-clause-gets
+returns-in-Err-clause-gets g c = c.lend_strong.ensures.gets

@@ -1,3 +1,4 @@
+use Rattle.genie_outputs.proofs.Getting.{got_reached}
 use Rattle.std.proofs.Common.{arith, ◌^◌}
 use Rattle.genie_outputs.proofs.Rows.{failed_keeps, out_keeps}
 use Rattle.genie_outputs.proofs.Answered.{answered_since, failed_answered, moved_config, moved_numbers}
@@ -43,3 +44,9 @@ returns-in-Ok-clause-lends g c = λ n is. own_since c.args.kernel.now c.make_rea
 
 pub returns-in-Err-clause-lends : goal.returns-in-Err-clause-lends
 returns-in-Err-clause-lends g c = λ n is. absurd (cc)
+
+pub returns-in-Ok-clause-gets : goal.returns-in-Ok-clause-gets
+returns-in-Ok-clause-gets g c = got_reached c.args.kernel.now c.make_ready.new.kernel c.begin_lent.new.kernel _ _ _ (g.S.Store.view c.args.store.now) (g.S.Store.view c.make_ready.new.store) c.make_ready.ensures.moved c.in-Ok.ensures.ready c.make_ready.ensures.gets c.begin_lent.ensures.gets
+
+pub returns-in-Err-clause-gets : goal.returns-in-Err-clause-gets
+returns-in-Err-clause-gets g c = omega (arith, c.make_ready.ensures.gets)
