@@ -35,9 +35,16 @@ use Rattle.genie_arrivals.specs.Outboard.{IsLateOutboard}
 use Rattle.genie_arrivals.specs.Pooled.{IsPooledInput, IsPooledOf}
 use Rattle.genie_arrivals.specs.Pooled as arrivals
 use Rattle.genie_pooling.specs.Pooled.{is_pooled_device, is_pooled_kind}
-use Rattle.genie_calls.specs.Serving.{is_late}
 use Rattle.genie_calls.specs.Kinds.{EndsOn, HasKind, IsInputOn, IsOfKind}
 use Rattle.genie_calls.proofs.Handles.{configured}
+use Rattle.genie_base.specs.declared.config.Config.{Config}
+use Rattle.genie_base.specs.declared.reply.Reply.{Reply}
+use Rattle.genie_base.specs.declared.semantics.Class.TheVariants.{Move}
+use Rattle.genie_base.specs.declared.semantics.Semantics.{Semantics}
+use Rattle.genie_base.specs.declared.semantics.Semantics.TheVariants as semantics
+use Rattle.genie_copying.specs.Bounds.{KeepsToBound, is_pooled_at}
+use Rattle.genie_copying.specs.Bounds as copying
+use Rattle.genie_arrivals.specs.LateCosts.{is_exchanged, is_exchanged_by}
 
 -- a device of the table has one of its places
 pub place_below : {X : Type 0} (xs : List (Option X)) (d : ℕ) → is_some (entry xs d) ≡ true → d < length xs
@@ -135,17 +142,40 @@ ends_pooled k n class on is = both (λ (t : Transfer) (o : IsInputOn Pooled k.de
 pub ends_outboard : (k : Kernel) (n : ℕ) (class : Class) → EndsOn Outboard k n → IfSome (find (has_number n) k.transfers) (λ (t : Transfer). class_of t.sem ≡ class) → IsLateOutboard class k n
 ends_outboard k n class on is = both (λ (t : Transfer) (o : IsInputOn Outboard k.devices t) e. record { inward = o.inward; class_is = e; outboard = kind_outboard (entry k.devices t.dev) o.device }) (find (has_number n) k.transfers) on is
 
--- such an end isn't on an early device
-late_one : (kind : Kind) (k : Kernel) (t : Transfer) → is_early kind ≡ false → IsInputOn kind k.devices t → is_late k t ≡ true
-late_one kind k t other x = ap (λ (d : Direction). is_inward d && not (is_early_device (entry k.devices t.dev))) x.inward ∙ ap not (not_early kind (entry k.devices t.dev) other x.device)
-  where
-    not_early : (kind : Kind) (v : Option DeviceView) → is_early kind ≡ false → IsOfKind kind v → is_early_device v ≡ false
-    not_early kind None other h = absurd h
-    not_early kind (Some v) other h = ap is_early h ∙ other
+-- a move on a pooled device is one whose pages the table has exchanged
+pooled_alike : (kind : Kind) → kind ≡ Pooled → copying.is_pooled kind ≡ true
+pooled_alike kind e = ap copying.is_pooled e
 
-pub ends_late : (k : Kernel) (n : ℕ) (kind : Kind) → EndsOn kind k n → is_early kind ≡ false → IfSome (find (has_number n) k.transfers) (λ (t : Transfer). is_late k t ≡ false) → is_some (find (has_number n) k.transfers) ≡ true → ⊥
-ends_late k n kind on other early there = by_found (find (has_number n) k.transfers) on early there
+pooled_with : (page : ℕ) (c : Option DeviceConfig) (v : Option DeviceView) (p : Option PoolState) → IsEquipped page c v p → IsOfKind Pooled v → (elim c [ None ↦ false | Some device ↦ copying.is_pooled device.kind ]) ≡ true
+pooled_with page c None p x e = absurd e
+pooled_with page None (Some v) p x e = absurd x
+pooled_with page (Some c) (Some v) p x e = pooled_alike c.kind (ap (λ (z : DeviceConfig). z.kind) (sym x.0.config) ∙ e)
+
+move_by : (c : Config) (sem : Semantics) (d addr : ℕ) → class_of sem ≡ Move → is_pooled_at c d ≡ true → is_exchanged_by c sem d addr ≡ true
+move_by c semantics.Copy d addr is e = cc
+move_by c semantics.EmulatedCopy d addr is e = cc
+move_by c semantics.Share d addr is e = cc
+move_by c semantics.EmulatedShare d addr is e = cc
+move_by c semantics.Move d addr is e = e
+move_by c semantics.EmulatedMove d addr is e = e
+move_by c semantics.WeakMove d addr is e = cc
+move_by c semantics.EmulatedWeakMove d addr is e = cc
+
+move_one : (k : Kernel) (t : Transfer) → IsGood k → IsInputOn Pooled k.devices t → class_of t.sem ≡ Move → (is_inward t.dir && is_exchanged k.config t) ≡ true
+move_one k t g x is = ap (λ (d : Direction). is_inward d && is_exchanged k.config t) x.inward ∙ move_by k.config t.sem t.dev t.addr is (pooled_with k.config.page (entry k.config.devices t.dev) (entry k.devices t.dev) (entry k.pools t.dev) (g.equipped.each t.dev) x.device)
+
+-- so the table says nothing of its end
+pub move_untabled : (k : Kernel) (n : ℕ) → IsGood k → EndsOn Pooled k n → IfSome (find (has_number n) k.transfers) (λ (t : Transfer). class_of t.sem ≡ Move) → IfSome (find (has_number n) k.transfers) (λ (t : Transfer). (is_inward t.dir && is_exchanged k.config t) ≡ false) → is_some (find (has_number n) k.transfers) ≡ true → ⊥
+move_untabled k n g on is tabled there = by_found (find (has_number n) k.transfers) on is tabled there
   where
-    by_found : (o : Option Transfer) → IfSome o (IsInputOn kind k.devices) → IfSome o (λ (t : Transfer). is_late k t ≡ false) → is_some o ≡ true → ⊥
-    by_found None on early there = let clash : false ≡ true = there in absurd (cc)
-    by_found (Some t) on early there = let clash : true ≡ false = sym (late_one kind k t other on) ∙ early in absurd (cc)
+    by_found : (o : Option Transfer) → IfSome o (IsInputOn Pooled k.devices) → IfSome o (λ (t : Transfer). class_of t.sem ≡ Move) → IfSome o (λ (t : Transfer). (is_inward t.dir && is_exchanged k.config t) ≡ false) → is_some o ≡ true → ⊥
+    by_found None on is tabled there = let clash : false ≡ true = there in absurd (cc)
+    by_found (Some t) on is tabled there = let clash : true ≡ false = sym (move_one k t g on is) ∙ tabled in absurd (cc)
+
+-- a copy that keeps to the table where its pages aren't exchanged
+pub copy_tabled : (k new : Kernel) (n : ℕ) (r : Reply) → EndsOn Pooled k n → is_some (find (has_number n) k.transfers) ≡ true → IfSome (find (has_number n) k.transfers) (λ (t : Transfer). is_exchanged k.config t ≡ false → KeepsToBound k (Finish n) new r) → IfSome (find (has_number n) k.transfers) (λ (t : Transfer). (is_inward t.dir && is_exchanged k.config t) ≡ false) → KeepsToBound k (Finish n) new r
+copy_tabled k new n r on there keeps tabled = by_found (find (has_number n) k.transfers) on there keeps tabled
+  where
+    by_found : (o : Option Transfer) → IfSome o (IsInputOn Pooled k.devices) → is_some o ≡ true → IfSome o (λ (t : Transfer). is_exchanged k.config t ≡ false → KeepsToBound k (Finish n) new r) → IfSome o (λ (t : Transfer). (is_inward t.dir && is_exchanged k.config t) ≡ false) → KeepsToBound k (Finish n) new r
+    by_found None on there keeps tabled = let clash : false ≡ true = there in absurd (cc)
+    by_found (Some t) on there keeps tabled = keeps (ap (λ (d : Direction). is_inward d && is_exchanged k.config t) (sym on.inward) ∙ tabled)

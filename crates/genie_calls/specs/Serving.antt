@@ -1,5 +1,5 @@
 -- What an event leaves of the kernel, the host and the store, and what it may answer.
-use Rattle.std.specs.Prelude.{◌≡◌, ℕ, ◌+◌, ◌^◌, ◌≤◌, Bool, true, false, not, ◌&&◌, find, IfSome, ⊤}
+use Rattle.std.specs.Prelude.{◌≡◌, ℕ, ◌+◌, ◌^◌, ◌≤◌, Bool, true, false, ◌&&◌, find, IfSome, ⊤}
 use Rattle.genie_base.specs.Events.{mark_of}
 use Rattle.genie_base.specs.declared.config.Config.{Config}
 use Rattle.genie_base.specs.declared.event.Event.{Event}
@@ -17,7 +17,6 @@ use Rattle.genie_kernel.specs.declared.kernel.Kernel.{Kernel}
 use Rattle.genie_kernel.specs.declared.transfer.Transfer.{Transfer}
 use Rattle.genie_model.specs.Pending.{is_inward}
 use Rattle.genie_kernel.specs.Calls.{has_number}
-use Rattle.genie_kernel.specs.Planned.{is_early_device}
 use Rattle.genie_kernel.specs.Good.{IsGood}
 use Rattle.genie_kernel.specs.Handles.{HasHandles, KeepsOthers}
 use Rattle.genie_kernel.specs.Kept.{Kept}
@@ -25,7 +24,9 @@ use Rattle.genie_kernel.specs.Rising.{MetersRise}
 use Rattle.genie_kernel.specs.Steps.{StepsTold, DeviceCause, StoreCause}
 use Rattle.genie_kernel.specs.Told.{input_at, output_at}
 use Rattle.genie_kernel.specs.View.{view}
+use Rattle.genie_arrivals.specs.LateCosts.{is_exchanged}
 use Rattle.genie_copying.specs.Bounds.{KeepsToBound}
+use Rattle.genie_copying.specs.Getting.{pages_most}
 use Rattle.genie_changes.specs.Filling.{StepsFilled}
 use Rattle.genie_changes.specs.Paged.{IsPaged}
 use Rattle.genie_calls.specs.Sharing.{Shares}
@@ -68,15 +69,23 @@ Touches Nothing mark old new v w = TouchesNothing mark old new v w
 Touches TheStore mark old new v w = TouchesStore mark old new v w
 Touches (TheHandle h) mark old new v w = TouchesHandle h mark old new v w
 
--- the end of an input on a device that isn't early
-abbrev pub is_late : Kernel → Transfer → Bool
-is_late k t = is_inward t.dir && not (is_early_device (entry k.devices t.dev))
-
--- the table of copying bounds these events: all but a fork, and the end of an input on a device that isn't early
+-- the table of copying bounds these events: all but a fork, and the end of an input on a pooled device where the table has
+-- pages exchanged with those of its buffer
 abbrev pub IsTabled : Kernel → Event → Type 0
 IsTabled k (Fork p child) = ⊥
-IsTabled k (Finish id) = IfSome (find (has_number id) k.transfers) (λ (t : Transfer). is_late k t ≡ false)
+IsTabled k (Finish id) = IfSome (find (has_number id) k.transfers) (λ (t : Transfer). (is_inward t.dir && is_exchanged k.config t) ≡ false)
 IsTabled k e = ⊤
+
+-- bytes land in an event as far as a receive step takes them; of the end of an input this says nothing
+abbrev pub LandsWithin : Kernel → Event → Kernel → Type 0
+LandsWithin old (Recv d n) new = new.memory.frames.landed ≤ old.memory.frames.landed + n
+LandsWithin old (Finish id) new = ⊤
+LandsWithin old e new = new.memory.frames.landed ≡ old.memory.frames.landed
+
+-- no more pages come from the store than the event names; of the end of an input this says nothing
+abbrev pub GetsWithin : Kernel → Event → Kernel → Type 0
+GetsWithin old (Finish id) new = ⊤
+GetsWithin old e new = new.memory.frames.meters.gets ≤ old.memory.frames.meters.gets + pages_most old e
 
 -- the kernel is good over a store of its size, and keeps what is lent and its configuration; what it stands for and the
 -- reply are those of the flat machine's step; a failure has its cause, and the handles stay open; one number at most is given
@@ -96,6 +105,8 @@ pub record Served (old new : Kernel) (e : Event) (before after : HostView) (v w 
   pub copying : IsTabled old e → KeepsToBound old e new reply
   pub sharing : Shares old e new reply
   pub filled : StepsFilled old e new reply before after v w
+  pub lands : LandsWithin old e new
+  pub gets : GetsWithin old e new
 
 -- so it is of an event that touches neither the host nor the store, whatever they are
 abbrev pub ServedAlone : Kernel → Event → Kernel → Reply → Type 0

@@ -12,7 +12,7 @@ ghost use Rattle.genie_kernel.specs.Steps.{StepsTold};
 ghost use Rattle.genie_kernel.specs.View.{outline, view};
 ghost use Rattle.genie_changes.specs.Filling.{StepsFilled};
 ghost use Rattle.genie_copying.specs.Bounds.{KeepsToBound};
-ghost use Rattle.genie_calls.specs.Serving.{IsTabled, Served, Touches, touched_by};
+ghost use Rattle.genie_calls.specs.Serving.{GetsWithin, IsTabled, LandsWithin, Served, Touches, touched_by};
 ghost use Rattle.genie_calls.specs.Sharing.{Shares};
 
 use crate::access::{pageout, read, write};
@@ -158,6 +158,10 @@ pub fn step<'a, H: Host, S: Store>(
     // A refusal changes nothing, and what the processor copies keeps to the table.
     ensures refused { IsSome (refuse (outline kernel.old) event.now) → kernel.new ≡ kernel.old }
     ensures copying { IsTabled kernel.old event.now → KeepsToBound kernel.old event.now kernel.new result }
+
+    // No more bytes land than a receive step takes, and no more pages come from the store than the event names.
+    ensures lands { LandsWithin kernel.old event.now kernel.new }
+    ensures gets { GetsWithin kernel.old event.now kernel.new }
 
     // Pages are shared with a child, lent in their own frames, or used again, and not copied.
     ensures sharing { Shares kernel.old event.now kernel.new result }

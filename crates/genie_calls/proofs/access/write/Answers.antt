@@ -5,4 +5,4 @@ use Rattle.genie_calls.proofs.Serving.{none_given, store_served}
 use Rattle.genie_calls.proofs.access.write.Goals as goal
 
 pub returns : goal.returns
-returns g c = let served = c.write.ensures in store_served c.args.kernel.now c.write.new.kernel (Write c.args.pid c.args.addr c.args.bytes.now) (g.S.Store.view c.args.store.now) (g.S.Store.view c.write.new.store) c.write.result refl served.good served.sized served.kept (ap (λ (k : Kernel). k.config) served.only) (none_given c.args.kernel.now c.write.new.kernel served.numbers) served.rises served.step served.cause (λ tabled. served.copying) tt
+returns g c = let served = c.write.ensures in store_served c.args.kernel.now c.write.new.kernel (Write c.args.pid c.args.addr c.args.bytes.now) (g.S.Store.view c.args.store.now) (g.S.Store.view c.write.new.store) c.write.result refl served.good served.sized served.kept (ap (λ (k : Kernel). k.config) served.only) (none_given c.args.kernel.now c.write.new.kernel served.numbers) served.rises served.step served.cause (λ tabled. served.copying) tt served.landed served.gets

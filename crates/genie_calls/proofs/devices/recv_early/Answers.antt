@@ -13,4 +13,4 @@ pub returns : goal.returns
 returns g c =
     let k = c.args.kernel.now in
     let served = c.recv_early.ensures in
-    host_served k c.recv_early.new.kernel (Recv c.args.dev c.args.len) (handle_of (input_at (entry k.config.devices c.args.dev))) (g.H.Host.view c.args.host.now) (g.H.Host.view c.recv_early.new.host) c.recv_early.result refl (input_named k c.args.dev c.args.len c.requires.accepted) c.requires.good served.good served.kept served.config served.numbers (received_rises k.memory c.recv_early.new.kernel.memory c.args.len (omega (arith, c.ranges.len)) served.memory served.landed) (ap (λ (m : Memory). m.frames.meters) served.memory) served.only served.handles served.step served.cause tt served.filled
+    host_served k c.recv_early.new.kernel (Recv c.args.dev c.args.len) (handle_of (input_at (entry k.config.devices c.args.dev))) (g.H.Host.view c.args.host.now) (g.H.Host.view c.recv_early.new.host) c.recv_early.result refl (input_named k c.args.dev c.args.len c.requires.accepted) c.requires.good served.good served.kept served.config served.numbers (received_rises k.memory c.recv_early.new.kernel.memory c.args.len (omega (arith, c.ranges.len)) served.memory served.landed) (ap (λ (m : Memory). m.frames.meters) served.memory) served.only served.handles served.step served.cause tt served.filled served.landed

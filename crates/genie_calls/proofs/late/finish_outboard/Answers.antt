@@ -1,13 +1,13 @@
-use Rattle.std.proofs.Common.{◌≡◌, refl, subst}
+use Rattle.std.proofs.Common.{◌≡◌, subst}
 use Rattle.std.specs.Prelude.{IfSome, find}
 use Rattle.genie_base.specs.Transfers.{class_of}
 use Rattle.genie_base.specs.declared.semantics.Class.{Class}
 use Rattle.genie_base.specs.declared.semantics.Class.TheVariants.{Copy, Share, Move, WeakMove}
 use Rattle.genie_kernel.specs.declared.transfer.Transfer.{Transfer}
 use Rattle.genie_kernel.specs.Calls.{has_number}
-use Rattle.genie_base.specs.declared.config.Kind.TheVariants.{Outboard}
-use Rattle.genie_calls.proofs.OfKinds.{ends_late, ends_outboard, finish_pending}
-use Rattle.genie_calls.proofs.Serving.{ends_by_store, paged_by_store}
+use Rattle.genie_base.specs.declared.event.Event.TheVariants.{Finish}
+use Rattle.genie_calls.proofs.OfKinds.{ends_outboard, finish_pending}
+use Rattle.genie_calls.proofs.Serving.{copies_nothing, ends_by_store, paged_by_store}
 use Rattle.genie_calls.proofs.late.finish_outboard.Goals as goal
 
 pub class_at-requires : goal.class_at-requires
@@ -19,7 +19,7 @@ finish_copy_outboard-requires-clause-case g c =
     ends_outboard k c.args.id Copy c.requires.case (subst (λ (x : Class). IfSome (find (has_number c.args.id) k.transfers) (λ (t : Transfer). class_of t.sem ≡ x)) c.in-Copy.is c.class_at.ensures)
 
 pub returns-in-Copy : goal.returns-in-Copy
-returns-in-Copy g c = ends_by_store c.args.kernel.now c.finish_copy_outboard.new.kernel c.args.id c.finish_copy_outboard.result (g.S.Store.view c.args.store.now) (g.S.Store.view c.finish_copy_outboard.new.store) (λ tabled. absurd (ends_late c.args.kernel.now c.args.id Outboard c.requires.case refl tabled (finish_pending c.args.kernel.now c.args.id c.requires.accepted))) c.finish_copy_outboard.ensures
+returns-in-Copy g c = ends_by_store c.args.kernel.now c.finish_copy_outboard.new.kernel c.args.id c.finish_copy_outboard.result (g.S.Store.view c.args.store.now) (g.S.Store.view c.finish_copy_outboard.new.store) (λ tabled. c.finish_copy_outboard.ensures.copying) c.finish_copy_outboard.ensures.serves
 
 pub finish_share_outboard-requires-clause-case : goal.finish_share_outboard-requires-clause-case
 finish_share_outboard-requires-clause-case g c =
@@ -27,7 +27,7 @@ finish_share_outboard-requires-clause-case g c =
     ends_outboard k c.args.id Share c.requires.case (subst (λ (x : Class). IfSome (find (has_number c.args.id) k.transfers) (λ (t : Transfer). class_of t.sem ≡ x)) c.in-Share.is c.class_at.ensures)
 
 pub returns-in-Share : goal.returns-in-Share
-returns-in-Share g c = paged_by_store c.paged_events_are_told.ensures c.args.kernel.now c.finish_share_outboard.new.kernel c.args.id c.finish_share_outboard.result (g.S.Store.view c.args.store.now) c.requires.good c.requires.accepted c.requires.sized (g.met.S.Store.paged c.args.store.now) (λ tabled. absurd (ends_late c.args.kernel.now c.args.id Outboard c.requires.case refl tabled (finish_pending c.args.kernel.now c.args.id c.requires.accepted))) c.finish_share_outboard.ensures.ends
+returns-in-Share g c = paged_by_store c.paged_events_are_told.ensures c.args.kernel.now c.finish_share_outboard.new.kernel c.args.id c.finish_share_outboard.result (g.S.Store.view c.args.store.now) c.requires.good c.requires.accepted c.requires.sized (g.met.S.Store.paged c.args.store.now) (λ tabled. copies_nothing c.args.kernel.now c.finish_share_outboard.new.kernel (Finish c.args.id) c.finish_share_outboard.result c.finish_share_outboard.ensures.meters tabled) c.finish_share_outboard.ensures.ends
 
 pub finish_move_outboard-requires-clause-case : goal.finish_move_outboard-requires-clause-case
 finish_move_outboard-requires-clause-case g c =
@@ -35,7 +35,7 @@ finish_move_outboard-requires-clause-case g c =
     ends_outboard k c.args.id Move c.requires.case (subst (λ (x : Class). IfSome (find (has_number c.args.id) k.transfers) (λ (t : Transfer). class_of t.sem ≡ x)) c.in-Move.is c.class_at.ensures)
 
 pub returns-in-Move : goal.returns-in-Move
-returns-in-Move g c = ends_by_store c.args.kernel.now c.finish_move_outboard.new.kernel c.args.id c.finish_move_outboard.result (g.S.Store.view c.args.store.now) (g.S.Store.view c.finish_move_outboard.new.store) (λ tabled. absurd (ends_late c.args.kernel.now c.args.id Outboard c.requires.case refl tabled (finish_pending c.args.kernel.now c.args.id c.requires.accepted))) c.finish_move_outboard.ensures
+returns-in-Move g c = ends_by_store c.args.kernel.now c.finish_move_outboard.new.kernel c.args.id c.finish_move_outboard.result (g.S.Store.view c.args.store.now) (g.S.Store.view c.finish_move_outboard.new.store) (λ tabled. c.finish_move_outboard.ensures.copying) c.finish_move_outboard.ensures.serves
 
 pub finish_weak_move_outboard-requires-clause-case : goal.finish_weak_move_outboard-requires-clause-case
 finish_weak_move_outboard-requires-clause-case g c =
@@ -43,4 +43,4 @@ finish_weak_move_outboard-requires-clause-case g c =
     ends_outboard k c.args.id WeakMove c.requires.case (subst (λ (x : Class). IfSome (find (has_number c.args.id) k.transfers) (λ (t : Transfer). class_of t.sem ≡ x)) c.in-WeakMove.is c.class_at.ensures)
 
 pub returns-in-WeakMove : goal.returns-in-WeakMove
-returns-in-WeakMove g c = paged_by_store c.paged_events_are_told.ensures c.args.kernel.now c.finish_weak_move_outboard.new.kernel c.args.id c.finish_weak_move_outboard.result (g.S.Store.view c.args.store.now) c.requires.good c.requires.accepted c.requires.sized (g.met.S.Store.paged c.args.store.now) (λ tabled. absurd (ends_late c.args.kernel.now c.args.id Outboard c.requires.case refl tabled (finish_pending c.args.kernel.now c.args.id c.requires.accepted))) c.finish_weak_move_outboard.ensures.ends
+returns-in-WeakMove g c = paged_by_store c.paged_events_are_told.ensures c.args.kernel.now c.finish_weak_move_outboard.new.kernel c.args.id c.finish_weak_move_outboard.result (g.S.Store.view c.args.store.now) c.requires.good c.requires.accepted c.requires.sized (g.met.S.Store.paged c.args.store.now) (λ tabled. copies_nothing c.args.kernel.now c.finish_weak_move_outboard.new.kernel (Finish c.args.id) c.finish_weak_move_outboard.result c.finish_weak_move_outboard.ensures.meters tabled) c.finish_weak_move_outboard.ensures.ends

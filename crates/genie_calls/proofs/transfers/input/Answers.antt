@@ -4,4 +4,4 @@ use Rattle.genie_calls.proofs.Serving.{store_served}
 use Rattle.genie_calls.proofs.transfers.input.Goals as goal
 
 pub returns : goal.returns
-returns g c = let served = c.input.ensures in store_served c.args.kernel.now c.input.new.kernel (Input c.args.pid c.args.sem c.args.dev c.args.port c.args.flow c.args.addr c.args.len) (g.S.Store.view c.args.store.now) (g.S.Store.view c.input.new.store) c.input.result refl served.good served.sized served.kept served.config served.numbers served.rises served.step served.cause (λ tabled. served.copying) served.reuses
+returns g c = let served = c.input.ensures in store_served c.args.kernel.now c.input.new.kernel (Input c.args.pid c.args.sem c.args.dev c.args.port c.args.flow c.args.addr c.args.len) (g.S.Store.view c.args.store.now) (g.S.Store.view c.input.new.store) c.input.result refl served.good served.sized served.kept served.config served.numbers served.rises served.step served.cause (λ tabled. served.copying) served.reuses served.landed served.gets
