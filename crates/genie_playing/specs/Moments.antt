@@ -21,7 +21,7 @@ use Rattle.genie_kernel.specs.View.{outline, view}
 use Rattle.genie_copying.specs.Bounds.{KeepsToBound}
 use Rattle.genie_changes.specs.Filling.{StepsFilled}
 use Rattle.genie_calls.specs.Sharing.{Shares}
-use Rattle.genie_calls.specs.Serving.{IsTabled, Touches, touched_by}
+use Rattle.genie_calls.specs.Serving.{GetsWithin, IsTabled, LandsWithin, Touches, touched_by}
 use Rattle.genie_replay.specs.Plays.{LaterFaults, OnlyRun}
 use Rattle.genie_playing.specs.Costs.{Answer, raise}
 
@@ -79,6 +79,8 @@ pub record Serves (old : Moment) (e : Event) (reply : Reply) (new : Moment) : Ty
   pub copying : IsTabled old.kernel e → KeepsToBound old.kernel e new.kernel reply
   pub sharing : Shares old.kernel e new.kernel reply
   pub filled : StepsFilled old.kernel e new.kernel reply old.host new.host old.store new.store
+  pub lands : LandsWithin old.kernel e new.kernel
+  pub gets : GetsWithin old.kernel e new.kernel
 
 -- and this is how far the meters rose in it
 pub record StepsTo (old : Moment) (e : Event) (a : Answer) (new : Moment) : Type 0 where

@@ -38,6 +38,8 @@ returns-in-Err-clause-answers g c = record {
       copying = c.step-reply.ensures.copying;
       sharing = c.step-reply.ensures.sharing;
       filled = c.step-reply.ensures.filled;
+      lands = c.step-reply.ensures.lands;
+      gets = c.step-reply.ensures.gets;
     };
     cost = rw (c.meters-before.ensures, c.meters.ensures) at c.raise-cost.ensures;
   };
