@@ -62,9 +62,9 @@ own_since k mid new c u v good moved unheld x =
       transfer = x.transfer;
       is_new = x.is_new ∙ ap (λ (z : Kernel). z.transfers ++ x.transfer ∷ []) moved.only;
       own = λ n d l free.
-        let at : place_in mid.config.page c x.region / mid.config.page ≡ place_in k.config.page c x.region / k.config.page = ap (λ (z : Kernel). place_in z.config.page c x.region / z.config.page) moved.only in
-        let before : is_weakly_held k.memory x.region.object.0 (place_in k.config.page c x.region / k.config.page + n) ≡ false = sym (held_alike k.memory x.region.object.0 (place_in k.config.page c x.region / k.config.page + n)) ∙ free in
-        let then = unheld x.region.object.0 (place_in k.config.page c x.region / k.config.page + n) (reached_unhidden k c x.region good reached) before in
-        let now = held_alike mid.memory x.region.object.0 (place_in k.config.page c x.region / k.config.page + n) ∙ then in
-        subst (λ p. entry_frame new.memory x.region.object.0 (p + n) ≡ Some (slice_index_or (loans_of x.transfer.loans) n d).frame) at (x.own n d l (subst (λ p. tcow.is_weakly_held mid.memory x.region.object.0 (p + n) ≡ false) (sym at) now));
+          let at : place_in mid.config.page c x.region / mid.config.page ≡ place_in k.config.page c x.region / k.config.page = ap (λ (z : Kernel). place_in z.config.page c x.region / z.config.page) moved.only in
+          let before : is_weakly_held k.memory x.region.object.0 (place_in k.config.page c x.region / k.config.page + n) ≡ false = sym (held_alike k.memory x.region.object.0 (place_in k.config.page c x.region / k.config.page + n)) ∙ free in
+          let then = unheld x.region.object.0 (place_in k.config.page c x.region / k.config.page + n) (reached_unhidden k c x.region good reached) before in
+          let now = held_alike mid.memory x.region.object.0 (place_in k.config.page c x.region / k.config.page + n) ∙ then in
+          subst (λ p. entry_frame new.memory x.region.object.0 (p + n) ≡ Some (slice_index_or (loans_of x.transfer.loans) n d).frame) at (x.own n d l (subst (λ p. tcow.is_weakly_held mid.memory x.region.object.0 (p + n) ≡ false) (sym at) now));
     }

@@ -62,8 +62,8 @@ still_filled old new e r host v w steps = record {
   output = none_sent (told_at host (output_at (entry old.config.devices (device_of e)))) (told_at host (output_at (entry old.config.devices (device_of e)))) refl;
   at_end = λ is. let clash : false ≡ true = is in absurd (cc);
   steps = λ rests sents a b left.
-    subst (λ (x : ℕ → List ℕ). StepsTold (state_over old v x sents) e (state_over new w rests (filled_at (device_of e) (sents (device_of e) ++ []) sents)) r) (sym (filled_same (device_of e) rests ([] ++ rests (device_of e)) refl))
-    (subst (λ (x : ℕ → List ℕ). StepsTold (state_over old v rests sents) e (state_over new w rests x) r) (sym (filled_same (device_of e) sents (sents (device_of e) ++ []) (append-nil (sents (device_of e))))) (steps rests sents a b));
+      subst (λ (x : ℕ → List ℕ). StepsTold (state_over old v x sents) e (state_over new w rests (filled_at (device_of e) (sents (device_of e) ++ []) sents)) r) (sym (filled_same (device_of e) rests ([] ++ rests (device_of e)) refl))
+      (subst (λ (x : ℕ → List ℕ). StepsTold (state_over old v rests sents) e (state_over new w rests x) r) (sym (filled_same (device_of e) sents (sents (device_of e) ++ []) (append-nil (sents (device_of e))))) (steps rests sents a b));
 }
 
 -- an event that touches neither the host nor the store
