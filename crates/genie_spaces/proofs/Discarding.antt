@@ -15,7 +15,7 @@ use Rattle.genie_frame.specs.declared.frame.Owner.TheVariants.{Free, Page, Syste
 use Rattle.genie_frame.specs.FrameTable.{FrameTable, owner_at, counts_at, bytes_at, is_held, is_page}
 use Rattle.genie_hiding.specs.declared.hidden.Hidden.{Hidden}
 use Rattle.genie_hiding.specs.Discarding.{Discards, is_object_of, has_object as has_hidden_object}
-use Rattle.genie_hiding.specs.Hidden.{is_of, others, objects_of, no_hidden}
+use Rattle.genie_hiding.specs.Hidden.{is_among, is_of, object_of, others, objects_of, no_hidden}
 use Rattle.genie_input.specs.Pools.{PoolState}
 use Rattle.genie_object.specs.declared.memory.Memory.{Memory}
 use Rattle.genie_object.specs.declared.objects.Entry.{Entry}
@@ -56,6 +56,7 @@ use Rattle.genie_kernel.specs.Lemmas.Keeping.{calls_kept, transfer_lent}
 use Rattle.genie_kernel.specs.Lemmas.Staying.{at_least, lends_kept, lent_true, pool_same, system_same, weak_held, weak_there}
 use Rattle.genie_changes.specs.Regions.{KeepsBytes}
 use Rattle.genie_kernel.specs.Steps.{bytes_over}
+use Rattle.genie_copying.specs.Spending.{StayUnheld}
 use Rattle.genie_spaces.specs.Clearing.{Clears, HiddenRegionGoes}
 use Rattle.genie_spaces.proofs.Keeping.{keeps_bytes, kept_all}
 
@@ -164,6 +165,10 @@ has_filter q (y ∷ ys) x h e = cond_both (q y) (y ∷ filter q ys) (filter q ys
 flat_same : (old new : ℕ → List ℕ) (fs : List ℕ) → ((j : ℕ) → j < length fs → new (get_or fs j 0) ≡ old (get_or fs j 0)) → bytes_in_frames new fs ≡ bytes_in_frames old fs
 flat_same old new [] h = refl
 flat_same old new (f ∷ fs) h = ap₂ ◌++◌ (h 0 (omega arith)) (flat_same old new fs (λ j l. h (suc j) (omega (arith, l))))
+
+count_named : (o : ℕ) (hs : List Hidden) → count_by (λ h. h == o) (objects_of hs) ≡ count_by (has_object o) (map hidden_region hs)
+count_named o [] = refl
+count_named o (h ∷ hs) = omega (arith, count_named o hs, sum_by-cons (λ (x : Region). num (has_object o x)) (hidden_region h) (map hidden_region hs), sum_by-cons (λ n. num (n == o)) (object_of h) (objects_of hs))
 
 -- those are left of the hidden regions whose objects aren't these
 pub record LeavesOut (objects : ℕ → Bool) (kept left : List Hidden) : Type 0 where
@@ -393,6 +398,18 @@ module _ (k : Kernel) (m : Memory) (objects : ℕ → Bool) (hid : List Hidden) 
     frames = cleared_needed;
   }
 
+  -- outside hidden regions no page has become weakly held: it is in the frame that it was in, with the same loans
+  beside : (o : ℕ) → is_among o (objects_of k.hidden) ≡ false → objects o ≡ false
+  beside o away =
+      let none = none_counted (count_by (λ h. h == o) (objects_of k.hidden)) away in
+      let same = count_named o k.hidden in
+      ⊎_elim (λ (yes : objects o ≡ true). absurd (omega (arith, out.some o yes, out.split o, same, none))) (λ (f : objects o ≡ false). f) (cases_Bool (objects o))
+
+  unheld : StayUnheld (objects_of k.hidden) k.memory m
+  unheld o i away free =
+      let here : entry_frame m o i ≡ entry_frame k.memory o i = sym (frame_place m o i) ∙ ap frame_in (d.places o i (beside o away)) ∙ frame_place k.memory o i in
+      ap (λ (t : FrameTable). elim (entry_frame m o i) as (λ _. Bool) [ None ↦ false | Some f ↦ is_held (counts_at t f) ]) d.frames ∙ ap (λ (x : Option ℕ). elim x as (λ _. Bool) [ None ↦ false | Some f ↦ is_held (counts_at k.memory.frames f) ]) here ∙ free
+
   -- all that the kernel stands for stays
   pub clears : Clears k cleared
   clears = let kept = calls_kept k star good star_keeps in record {
@@ -402,6 +419,7 @@ module _ (k : Kernel) (m : Memory) (objects : ℕ → Bool) (hid : List Hidden) 
     kept = record { lent = λ n f t u is. kept.lent n f t u (record { was = is.was; is = is.is }); pooled = kept.pooled; fresh = λ n f t u is. kept.fresh n f t u (record { was = is.was; is = is.is }) };
     meters = ap (λ (t : FrameTable). t.meters) d.frames;
     landed = ap (λ (t : FrameTable). t.landed) d.frames;
+    unheld = unheld;
   }
 
 -- the hidden regions of a process go
@@ -471,7 +489,7 @@ pub hidden_goes : HiddenRegionGoes
 hidden_goes k m i good l x fits = clears k m (λ a. a == (get_or k.hidden i no_hidden).region.object.0) (remove k.hidden i) (one_left k.hidden i l) good (removed_discards k.memory m (get_or k.hidden i no_hidden).region.object.0 x) fits
 
 pub clears_nothing : (k : Kernel) → IsGood k → Clears k k
-clears_nothing k good = record { good = good; only = refl; bytes = λ slots rests sents. keeps_bytes k (bytes_over k.memory slots rests sents); kept = kept_all k good; meters = refl; landed = refl }
+clears_nothing k good = record { good = good; only = refl; bytes = λ slots rests sents. keeps_bytes k (bytes_over k.memory slots rests sents); kept = kept_all k good; meters = refl; landed = refl; unheld = λ o i away free. free }
 
 pub room_made : (k : Kernel) (hid : List Hidden) (p n : ℕ) → n < 32 → hid ≡ others p k.hidden → n + count_by (is_of p) hid < 32
 room_made k hid p n few is = let none : count_by (is_of p) hid ≡ 0 = ap (count_by (is_of p)) is ∙ none_hidden p k.hidden in omega (arith, few, none)

@@ -1,18 +1,19 @@
 -- How a fork ends.
-use Rattle.std.proofs.Common.{◌≡◌, ◌≢◌, Bool, ℕ, ◌<◌, ◌^◌, true, false, List, [], ◌∷◌, refl, sym, ap, subst, arith, ◌∙◌, length, get_or, get_or-set_same, get_or-set_other, ⊎_elim, map, zero, suc, take, filter, inl, inr, ◌≤◌}
+use Rattle.std.proofs.Common.{◌≡◌, ◌≢◌, Bool, ℕ, ◌<◌, ◌^◌, true, false, List, [], ◌∷◌, refl, sym, ap, subst, arith, ◌∙◌, length, get_or, get_or-set_same, get_or-set_other, ⊎_elim, map, zero, suc, take, filter, inl, inr, ◌≤◌, ◌+◌, ◌*◌}
 use Rattle.std.specs.Prelude.{Option, Some, None, All, find, is_some, unwrap_or, slice_set, sum_by, if◌then◌else◌}
 use Rattle.std.specs.List.{AllPairs, list_any}
 use Rattle.std.proofs.lemmas.Bool.{cases_Bool, cond_both}
 use Rattle.genie_base.specs.declared.event.Event.TheVariants.{Fork}
 use Rattle.genie_base.specs.declared.reply.Reply.TheVariants as reply
+use Rattle.genie_frame.specs.declared.frame.Meters.{Meters}
 use Rattle.genie_frame.specs.FrameTable.{counts_at, is_held, FrameTable}
 use Rattle.genie_hiding.specs.Discarding.{Discards}
-use Rattle.genie_hiding.specs.Hidden.{objects_of}
+use Rattle.genie_hiding.specs.Hidden.{is_among, objects_of}
 use Rattle.genie_host.specs.Host.{HostView}
 use Rattle.genie_object.specs.declared.memory.Memory.{Memory}
 use Rattle.genie_base.specs.declared.config.Config.{Config}
 use Rattle.genie_object.specs.declared.objects.Entry.{Entry}
-use Rattle.genie_object.specs.Costs.{AreBelow, Spends}
+use Rattle.genie_object.specs.Costs.{AreBelow, Spends, work}
 use Rattle.genie_object.specs.Leaving.{IsUnheld}
 use Rattle.genie_object.specs.Objects.{entry_at, object_at}
 use Rattle.genie_object.specs.Sound.{IsSized, IsSound}
@@ -44,12 +45,52 @@ use Rattle.genie_kernel.specs.Regions.{owned_regions}
 use Rattle.genie_kernel.specs.Steps.{StepsTold}
 use Rattle.genie_kernel.specs.View.{outline, view}
 use Rattle.genie_changes.specs.Removing.{GoodRegionsFit}
+use Rattle.genie_copying.specs.Kinds.{count_pages, is_weakly_held}
+use Rattle.genie_copying.specs.Ranges.{count_all, count_in, pages_of}
+use Rattle.genie_copying.specs.Spending.{StayUnheld}
+use Rattle.genie_copying.specs.Lemmas.Counting.{bytes_fewer, bytes_next, bytes_none, count_fewer}
 use Rattle.genie_spaces.specs.Clearing.{Clears}
 use Rattle.genie_spaces.specs.Forking.{Begins, CanCopyPages, SharesPages, with_child, with_entries, fork_work, is_forked}
 use Rattle.genie_spaces.specs.RegionLaws.{RegionLaws}
 use Rattle.genie_spaces.proofs.Copying.{MayFork, may_fork, parent_alive}
 use Rattle.genie_spaces.proofs.Forked.{good_back, good_now, kept_back, kept_now, sized_back, told_back, told_there, keeps_back}
+use Rattle.genie_spaces.proofs.Numbering.{has_owned}
 use Rattle.genie_spaces.proofs.Ready.{are_copies, copies_there, good_forked, source_apart, source_there, unhidden as unhidden_region}
+
+-- whether a device holds the page of an entry, by its place and by its frame
+held_place : (m : Memory) (place : Place) → is_held_in m.frames.counts place ≡ elim (frame_in place) as (λ _. Bool) [ None ↦ false | Some f ↦ is_held (counts_at m.frames f) ]
+held_place m Zero = refl
+held_place m (Frame f) = refl
+held_place m (Slot s) = refl
+
+held_page : (m : Memory) (q : Option PageId) → is_held_in m.frames.counts (elim q as (λ _. Place) [ None ↦ Zero | Some r ↦ (page_at m.pages.pages r.0).place ]) ≡ elim (frame_of m.pages.pages q) as (λ _. Bool) [ None ↦ false | Some f ↦ is_held (counts_at m.frames f) ]
+held_page m None = refl
+held_page m (Some r) = held_place m (page_at m.pages.pages r.0).place
+
+-- what it costs to copy entries are the bytes of those that a device holds
+copies_bytes : (m : Memory) (o n : ℕ) → copies_work m o n ≡ m.frames.page * count_pages (is_weakly_held m o) 0 n
+copies_bytes m o zero = sym (bytes_none m.frames.page (is_weakly_held m o) 0)
+copies_bytes m o (suc n) =
+    let next = bytes_next m.frames.page (is_weakly_held m o) 0 n in
+    let none : n ≡ 0 + n = omega arith in
+    let one : copy_work m o n ≡ (if is_weakly_held m o (0 + n) then m.frames.page else 0) = ap (λ (b : Bool). if b then m.frames.page else 0) (held_page m (entry_at m.objects o n).page) ∙ ap (λ (j : ℕ). if is_weakly_held m o j then m.frames.page else 0) none in
+    omega (arith, next, copies_bytes m o n, one)
+
+copies_held : (hidden : List ℕ) (old new : Memory) (r : Region) → StayUnheld hidden old new → is_among r.object.0 hidden ≡ false → copies_work new r.object.0 r.pages ≤ new.frames.page * count_in is_weakly_held old (pages_of r)
+copies_held hidden old new r stays out =
+    let fewer = bytes_fewer new.frames.page _ _ (count_fewer (is_weakly_held new r.object.0) (is_weakly_held old r.object.0) 0 r.pages (λ i. stays r.object.0 i out)) in
+    omega (arith, fewer, copies_bytes new r.object.0 r.pages)
+
+times_sum : (page a b : ℕ) → page * (a + b) ≡ page * a + page * b
+times_sum page a b = grind arith
+
+all_held : (page : ℕ) (f : Region → ℕ) (m : Memory) (rs : List Region) → ((r : Region) → Has r rs → f r ≤ page * count_in is_weakly_held m (pages_of r)) → sum_by f (filter is_forked rs) ≤ page * count_all is_weakly_held m rs
+all_held page f m [] h = omega arith
+all_held page f m (x ∷ rs) h =
+    let rest = all_held page f m rs (λ r is. h r (inr is)) in
+    let first = h x (inl refl) in
+    let all : page * count_all is_weakly_held m (x ∷ rs) ≡ page * count_in is_weakly_held m (pages_of x) + page * count_all is_weakly_held m rs = ap (λ n. page * n) (sum_by-cons (λ (r : Region). count_in is_weakly_held m (pages_of r)) x rs) ∙ times_sum page (count_in is_weakly_held m (pages_of x)) (count_all is_weakly_held m rs) in
+    cond_both (is_forked x) (x ∷ filter is_forked rs) (filter is_forked rs) (λ l. sum_by f l ≤ page * count_all is_weakly_held m (x ∷ rs)) (λ t. omega (arith, rest, first, all, sum_by-cons f x (filter is_forked rs))) (λ t. omega (arith, rest, all))
 
 -- it isn't refused once hidden regions were dropped
 pub still_accepted : (old k : Kernel) (p child : ℕ) → Clears old k → refuse (outline old) (Fork p child) ≡ None → refuse (outline k) (Fork p child) ≡ None
@@ -166,6 +207,23 @@ module _ (laws : RegionLaws) (fit : GoodRegionsFit) (old mid : Kernel) (p child 
         let one = subst (λ (n : Kernel). Spends (sum_by (region_work n.memory (regions_of p n.spaces)) cs) 0 (2 ^ 24) (2 ^ 11) n.memory.frames.meters after.memory.frames.meters) b.only s in
         subst (λ t. Spends (sum_by (region_work (with_entries k os) rs) cs) 0 (2 ^ 24) (2 ^ 11) t after.memory.frames.meters) b.clears.meters one
 
+    -- and that is at most the bytes of the pages that a device held before
+    held_most : sum_by (region_work (with_entries k os) rs) cs ≤ old.config.page * count_all is_weakly_held old.memory (regions_of p old.spaces)
+    held_most =
+        let framed_was : (o i : ℕ) → entry_frame (with_entries k os) o i ≡ entry_frame k.memory o i = λ o i. ap (λ (e : Entry). frame_of k.memory.pages.pages e.page) (b.made.entries o i) in
+        let less = spent_by k.memory refl (λ o i f framed held. (sym (framed_was o i) ∙ framed, held)) in
+        let same : regions_of p old.spaces ≡ rs = sym (ap (λ (n : Kernel). regions_of p n.spaces) b.clears.only) in
+        let named : entry old.spaces.processes p ≡ Some rs = sym (ap (λ (n : Kernel). entry n.spaces.processes p) b.clears.only) ∙ may.there in
+        let each : (r : Region) → Has r rs → copies_work k.memory r.object.0 r.pages ≤ k.memory.frames.page * count_in is_weakly_held old.memory (pages_of r) = λ r is. copies_held (objects_of old.hidden) old.memory k.memory r b.clears.unheld (unhidden_region old start r (has_owned old.spaces.processes p rs r named is)) in
+        let most = all_held k.memory.frames.page (λ (r : Region). copies_work k.memory r.object.0 r.pages) old.memory rs each in
+        let page : k.memory.frames.page ≡ old.config.page = b.clears.good.sized.page ∙ ap (λ (n : Kernel). n.config.page) b.clears.only in
+        let there : k.memory.frames.page * count_all is_weakly_held old.memory rs ≡ old.config.page * count_all is_weakly_held old.memory (regions_of p old.spaces) = ap (λ n. n * count_all is_weakly_held old.memory rs) page ∙ ap (λ l. old.config.page * count_all is_weakly_held old.memory l) (sym same) in
+        omega (arith, less, most, there)
+
+    -- so what is copied keeps to the table, whatever the end
+    pub table_kept : (t : Meters) → t ≡ after.memory.frames.meters → Spends (sum_by (region_work mid.memory (regions_of p mid.spaces)) cs) 0 (2 ^ 24) (2 ^ 11) mid.memory.frames.meters after.memory.frames.meters → work t ≤ work old.memory.frames.meters + old.config.page * count_all is_weakly_held old.memory (regions_of p old.spaces)
+    table_kept t same s = let spent = (spent_there s).work in let most = held_most in omega (arith, spent, most, ap work same)
+
     module _ (y : CopiesRegions (objects_of mid.hidden) (regions_of p mid.spaces) cs mid.memory after.memory v w) (new : Kernel) (added : new ≡ with_child after child cs) where
       one : CopiesRegions (objects_of k.hidden) rs cs (with_entries k os) after.memory v w
       one = subst (λ (n : Kernel). CopiesRegions (objects_of n.hidden) (regions_of p n.spaces) cs n.memory after.memory v w) b.only y
@@ -217,6 +275,9 @@ module _ (laws : RegionLaws) (fit : GoodRegionsFit) (old mid : Kernel) (p child 
           let clear = unhidden_region (record (with_child k child cs) { memory = with_entries k os }) (good_forked laws k p child rs cs os may refusal b.made) r there in
           shows.same r i found_before (omega (arith, below, long)) (unheld_before r i free)
           ∙ sym (one.entries.pages r.object.0 i clear (source_apart laws k p child rs cs os may refusal b.made r r_is))
+
+      pub same_done : new.memory.frames.meters ≡ after.memory.frames.meters
+      same_done = ap (λ (n : Kernel). n.memory.frames.meters) is_new
 
       parents_there : regions_of p done.spaces ≡ rs
       parents_there = ap (λ (o : Option (List Region)). unwrap_or o []) (get_or-set_other k.spaces.processes child p (Some cs) None other_process)
@@ -285,6 +346,9 @@ module _ (laws : RegionLaws) (fit : GoodRegionsFit) (old mid : Kernel) (p child 
             let meters : dropped.frames.meters ≡ after.memory.frames.meters = ap (λ (t : FrameTable). t.meters) d.frames in
             subst (λ t. Spends (fork_work (record after { memory = dropped }) p) 0 (2 ^ 24) (2 ^ 11) old.memory.frames.meters t) (sym meters)
             (spends_more (sum_by (region_work (with_entries k os) rs) cs) 0 (2 ^ 24) (2 ^ 11) (fork_work (record after { memory = dropped }) p) 0 (2 ^ 24) (2 ^ 11) old.memory.frames.meters after.memory.frames.meters (spent_there s) (omega (arith, less, same)) (omega arith) (omega arith) (omega arith))
+
+        pub same_failed : dropped.frames.meters ≡ after.memory.frames.meters
+        same_failed = ap (λ (t : FrameTable). t.meters) d.frames
 
         pub landed_failed : dropped.frames.landed ≡ old.memory.frames.landed
         landed_failed = ap (λ (t : FrameTable). t.landed) d.frames ∙ failed.landed ∙ b.clears.landed

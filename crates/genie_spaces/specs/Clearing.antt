@@ -12,6 +12,7 @@ use Rattle.genie_kernel.specs.declared.kernel.Kernel.{Kernel}
 use Rattle.genie_kernel.specs.Good.{IsGood}
 use Rattle.genie_kernel.specs.Kept.{Kept}
 use Rattle.genie_kernel.specs.Steps.{bytes_over}
+use Rattle.genie_copying.specs.Spending.{StayUnheld}
 
 -- the process has room for one region more, hidden ones counted
 abbrev pub HasRoom : ℕ → Kernel → Type 0
@@ -25,6 +26,7 @@ pub record Clears (old new : Kernel) : Type 0 where
   pub kept : Kept old new
   pub meters : new.memory.frames.meters ≡ old.memory.frames.meters
   pub landed : new.memory.frames.landed ≡ old.memory.frames.landed
+  pub unheld : StayUnheld (objects_of old.hidden) old.memory new.memory
 
 -- so it is once one hidden region has gone, with its object
 abbrev pub HiddenRegionGoes : Type 0

@@ -12,6 +12,7 @@ ghost use Rattle.genie_sharing.specs.Copying.{Copies};
 ghost use Rattle.genie_sharing.specs.Regions.{CopiesRegions, is_copied, region_work};
 ghost use Rattle.genie_space.specs.Spaces.{is_alive, regions_of};
 ghost use Rattle.genie_model.specs.Refusing.{refuse};
+ghost use Rattle.genie_copying.specs.Bounds.{KeepsToBound};
 ghost use Rattle.genie_kernel.specs.Good.{IsGood};
 ghost use Rattle.genie_kernel.specs.Kept.{Kept};
 ghost use Rattle.genie_kernel.specs.Rising.{MetersRise};
@@ -121,6 +122,9 @@ pub fn fork<S: Store>(kernel: &mut Kernel, store: &mut S, pid: u32, child: u32) 
     ensures landed { kernel.new.memory.frames.landed ≡ kernel.old.memory.frames.landed }
     ensures rises { MetersRise (2 ^ 36) kernel.old.memory.frames kernel.new.memory.frames }
     ensures shared { result ≡ reply.Okay → SharesPages kernel.new pid child }
+
+    // What the processor copies keeps to the table: the pages of the parent that a device holds.
+    ensures copying { KeepsToBound kernel.old (event.Fork pid child) kernel.new result }
 {
     region_laws();
     regions_fit();

@@ -1,4 +1,4 @@
-use Rattle.genie_spaces.proofs.Ended.{child_new, child_number, config_done, config_failed, drop_differ, drop_sound, drop_there, good_done, good_failed, kept_done, kept_failed, landed_done, landed_failed, meters_done, meters_failed, meters_mid, numbers_done, numbers_failed, ready, shared_done, sized_done, sized_failed, sized_mid, tables_size, told_done, told_failed}
+use Rattle.genie_spaces.proofs.Ended.{child_new, child_number, config_done, config_failed, drop_differ, drop_sound, drop_there, good_done, good_failed, kept_done, kept_failed, landed_done, landed_failed, meters_done, meters_failed, meters_mid, numbers_done, numbers_failed, ready, same_done, same_failed, shared_done, sized_done, sized_failed, sized_mid, table_kept, tables_size, told_done, told_failed}
 use Rattle.genie_spaces.proofs.Rising.{rises_forked}
 use Rattle.genie_spaces.proofs.fork.fork.Goals as goal
 
@@ -91,3 +91,9 @@ returns-in-Err-clause-rises g c =
     let good = good_failed c.region_laws.ensures c.regions_fit.ensures.regions c.args.kernel.now c.begin-copies.new.kernel c.args.pid c.args.child c.begin-copies.result c.requires.good c.requires.accepted c.begin-copies.ensures c.copy_pages.new.kernel c.copy_pages.ensures.only (g.S.Store.view c.args.store.now) (g.S.Store.view c.copy_pages.new.store) c.in-Err.ensures.failed c.drop_objects.new.memory c.drop_objects.ensures c.memory_calls_keep_good.ensures.good in
     let spent = meters_failed c.region_laws.ensures c.regions_fit.ensures.regions c.args.kernel.now c.begin-copies.new.kernel c.args.pid c.args.child c.begin-copies.result c.requires.good c.requires.accepted c.begin-copies.ensures c.copy_pages.new.kernel c.copy_pages.ensures.only (g.S.Store.view c.args.store.now) (g.S.Store.view c.copy_pages.new.store) c.in-Err.ensures.failed c.drop_objects.new.memory c.drop_objects.ensures c.copy_pages.ensures.meters in
     rises_forked c.regions_fit.ensures.regions c.args.kernel.now (record (c.copy_pages.new.kernel) { memory = c.drop_objects.new.memory }) c.args.pid good spent (landed_failed c.region_laws.ensures c.regions_fit.ensures.regions c.args.kernel.now c.begin-copies.new.kernel c.args.pid c.args.child c.begin-copies.result c.requires.good c.requires.accepted c.begin-copies.ensures c.copy_pages.new.kernel c.copy_pages.ensures.only (g.S.Store.view c.args.store.now) (g.S.Store.view c.copy_pages.new.store) c.in-Err.ensures.failed c.drop_objects.new.memory c.drop_objects.ensures)
+
+pub returns-in-Ok-clause-copying : goal.returns-in-Ok-clause-copying
+returns-in-Ok-clause-copying g c = table_kept c.region_laws.ensures c.regions_fit.ensures.regions c.args.kernel.now c.begin-copies.new.kernel c.args.pid c.args.child c.begin-copies.result c.requires.good c.requires.accepted c.begin-copies.ensures c.copy_pages.new.kernel c.copy_pages.ensures.only (g.S.Store.view c.args.store.now) (g.S.Store.view c.copy_pages.new.store) c.add_child.new.kernel.memory.frames.meters (same_done c.region_laws.ensures c.regions_fit.ensures.regions c.args.kernel.now c.begin-copies.new.kernel c.args.pid c.args.child c.begin-copies.result c.requires.good c.requires.accepted c.begin-copies.ensures c.copy_pages.new.kernel c.copy_pages.ensures.only (g.S.Store.view c.args.store.now) (g.S.Store.view c.copy_pages.new.store) c.in-Ok.ensures.copied c.add_child.new.kernel c.add_child.ensures) c.copy_pages.ensures.meters
+
+pub returns-in-Err-clause-copying : goal.returns-in-Err-clause-copying
+returns-in-Err-clause-copying g c = table_kept c.region_laws.ensures c.regions_fit.ensures.regions c.args.kernel.now c.begin-copies.new.kernel c.args.pid c.args.child c.begin-copies.result c.requires.good c.requires.accepted c.begin-copies.ensures c.copy_pages.new.kernel c.copy_pages.ensures.only (g.S.Store.view c.args.store.now) (g.S.Store.view c.copy_pages.new.store) c.drop_objects.new.memory.frames.meters (same_failed c.region_laws.ensures c.regions_fit.ensures.regions c.args.kernel.now c.begin-copies.new.kernel c.args.pid c.args.child c.begin-copies.result c.requires.good c.requires.accepted c.begin-copies.ensures c.copy_pages.new.kernel c.copy_pages.ensures.only (g.S.Store.view c.args.store.now) (g.S.Store.view c.copy_pages.new.store) c.in-Err.ensures.failed c.drop_objects.new.memory c.drop_objects.ensures) c.copy_pages.ensures.meters
