@@ -3,7 +3,7 @@ use Rattle.std.specs.Prelude.{◌≡◌, ℕ, ◌+◌, ◌^◌, ◌≤◌, Bool,
 use Rattle.genie_base.specs.Events.{mark_of}
 use Rattle.genie_base.specs.declared.config.Config.{Config}
 use Rattle.genie_base.specs.declared.event.Event.{Event}
-use Rattle.genie_base.specs.declared.event.Event.TheVariants.{Send, Recv, Fork, Finish}
+use Rattle.genie_base.specs.declared.event.Event.TheVariants.{Send, Recv, Finish}
 use Rattle.genie_base.specs.declared.reply.Mark.{Mark}
 use Rattle.genie_base.specs.declared.reply.Mark.TheVariants.{NoFault}
 use Rattle.genie_base.specs.declared.reply.Reply.{Reply}
@@ -69,10 +69,9 @@ Touches Nothing mark old new v w = TouchesNothing mark old new v w
 Touches TheStore mark old new v w = TouchesStore mark old new v w
 Touches (TheHandle h) mark old new v w = TouchesHandle h mark old new v w
 
--- the table of copying bounds these events: all but a fork, and the end of an input on a pooled device where the table has
--- pages exchanged with those of its buffer
+-- the table of copying bounds these events: all but the end of an input on a pooled device where the table has pages exchanged
+-- with those of its buffer
 abbrev pub IsTabled : Kernel → Event → Type 0
-IsTabled k (Fork p child) = ⊥
 IsTabled k (Finish id) = IfSome (find (has_number id) k.transfers) (λ (t : Transfer). (is_inward t.dir && is_exchanged k.config t) ≡ false)
 IsTabled k e = ⊤
 
